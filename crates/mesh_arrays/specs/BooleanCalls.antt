@@ -1,11 +1,13 @@
 -- Calls for booleans of contours in lists, and what they leave in the caller's room.
 use Rattle.std.specs.Prelude.{ℕ, ℤ, List, Result}
-use Rattle.mesh_arrays.specs.Booleans.{Boolean, IsBooleanAnswer, IsNearBooleanAnswer, boolean_of}
+use Rattle.mesh_arrays.specs.Booleans.{Boolean, IsBooleanAnswer, IsBooleanOf, IsNearBooleanAnswer, boolean_of}
+use Rattle.mesh_arrays.specs.EndToEnd.{PathLists}
 use Rattle.mesh_arrays.specs.Failures.{IsRead, read_as}
 use Rattle.mesh_arrays.specs.Numbers.{whole_point}
 use Rattle.mesh_arrays.specs.ShapeRooms.{LeavesNear, LeavesShapes, NearRoom, ShapeRoom}
 use Rattle.mesh_arrays.specs.Telling.{Returns, TellsAnswer}
 use Rattle.mesh_arrays.specs.declared.boolean.ContourBoolean.{ContourBoolean}
+use Rattle.mesh_arrays.specs.declared.boolean.FlatBoolean.{FlatBoolean}
 use Rattle.mesh_arrays.specs.declared.failure.Failure.{Failure}
 use Rattle.mesh_arrays.specs.declared.options.FlatOptions.{FlatOptions}
 use Rattle.mesh_arrays.specs.declared.outcome.Outcome.{Outcome}
@@ -13,6 +15,10 @@ use Rattle.mesh_arrays.specs.declared.outcome.Outcome.{Outcome}
 -- what a boolean stands for whose coordinates are whole numbers to contracts
 abbrev pub whole_boolean : ContourBoolean ℤ ℤ ℕ → Boolean
 whole_boolean boolean = boolean_of boolean
+
+-- a boolean that is asked for of contours in lists of whole numbers
+abbrev pub AsksBoolean : PathLists (List ℤ) → PathLists (List ℤ) → FlatBoolean → Boolean → Type 0
+AsksBoolean subject clip asked = IsBooleanOf whole_point subject clip asked
 
 -- a call for the boolean that `asks` names ends as `Ends` says of what was read
 abbrev pub Combines : (Boolean → Type 0) → (Result Boolean Failure → Outcome → Type 0) → ℕ → Type 0

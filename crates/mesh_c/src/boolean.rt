@@ -1,9 +1,8 @@
 //! The calls for booleans.
 
-ghost use Rattle.mesh_arrays.specs.BooleanCalls.{TellsBoolean, TellsNearBoolean};
-ghost use Rattle.mesh_arrays.specs.Booleans.{IsBooleanOf};
+ghost use Rattle.mesh_arrays.specs.BooleanCalls.{AsksBoolean, TellsBoolean, TellsNearBoolean};
 ghost use Rattle.mesh_arrays.specs.EndToEnd.{path_lists};
-ghost use Rattle.mesh_arrays.specs.Numbers.{unit_16, unit_32, whole_point};
+ghost use Rattle.mesh_arrays.specs.Numbers.{unit_16, unit_32};
 ghost use Rattle.mesh_arrays.specs.ShapeRooms.{near_room, shape_room};
 
 use mesh_arrays::boolean::{FlatBoolean, boolean};
@@ -28,7 +27,7 @@ pub extern "C" fn mesh_boolean_i32(
     counts: &mut ShapeCounts,
 ) -> u8
     ensures { TellsBoolean unit_32
-        (IsBooleanOf whole_point (path_lists subject_points.now subject_ends.now)
+        (AsksBoolean (path_lists subject_points.now subject_ends.now)
         (path_lists clip_points.now clip_ends.now) asked.now) options.now
         (shape_room shape_points.old contour_ends.old shape_ends.old counts.old)
         (shape_room shape_points.new contour_ends.new shape_ends.new counts.new) result }
@@ -71,7 +70,7 @@ pub extern "C" fn mesh_boolean_near_i32(
     nearness: &mut u64,
 ) -> u8
     ensures { TellsNearBoolean unit_32
-        (IsBooleanOf whole_point (path_lists subject_points.now subject_ends.now)
+        (AsksBoolean (path_lists subject_points.now subject_ends.now)
         (path_lists clip_points.now clip_ends.now) asked.now) options.now most_splits
         (near_room shape_points.old contour_ends.old shape_ends.old counts.old nearness.old)
         (near_room shape_points.new contour_ends.new shape_ends.new counts.new nearness.new) result }
@@ -114,7 +113,7 @@ pub extern "C" fn mesh_boolean_i16(
     counts: &mut ShapeCounts,
 ) -> u8
     ensures { TellsBoolean unit_16
-        (IsBooleanOf whole_point (path_lists subject_points.now subject_ends.now)
+        (AsksBoolean (path_lists subject_points.now subject_ends.now)
         (path_lists clip_points.now clip_ends.now) asked.now) options.now
         (shape_room shape_points.old contour_ends.old shape_ends.old counts.old)
         (shape_room shape_points.new contour_ends.new shape_ends.new counts.new) result }
@@ -157,7 +156,7 @@ pub extern "C" fn mesh_boolean_near_i16(
     nearness: &mut u64,
 ) -> u8
     ensures { TellsNearBoolean unit_16
-        (IsBooleanOf whole_point (path_lists subject_points.now subject_ends.now)
+        (AsksBoolean (path_lists subject_points.now subject_ends.now)
         (path_lists clip_points.now clip_ends.now) asked.now) options.now most_splits
         (near_room shape_points.old contour_ends.old shape_ends.old counts.old nearness.old)
         (near_room shape_points.new contour_ends.new shape_ends.new counts.new nearness.new) result }

@@ -1,3 +1,5 @@
 pub mod Fills
+pub mod Grown
+pub mod Nets
 pub mod Styles
 pub mod Tracks

@@ -1,16 +1,13 @@
 //! What contours have in common, and where contours overlap once they have grown.
 
-ghost use Rattle.std.specs.Prelude.{◌^◌, ◌∷◌, [], List, IfOk};
+ghost use Rattle.std.specs.Prelude.{IfOk};
 ghost use Rattle.mesh_num.specs.Paths.{paths_of, shapes_of};
-ghost use Rattle.mesh_num.specs.Plane.{Point};
 ghost use Rattle.mesh_below.specs.Options.{plain};
 ghost use Rattle.mesh_boolean.specs.Booleans.{operands_of};
 ghost use Rattle.mesh_boolean.specs.Regions.{AreBooleanRegions};
-ghost use Rattle.mesh_boolean.specs.Zones.{AreOverlaidRegions};
-ghost use Rattle.mesh_boolean.specs.declared.rule.BooleanRule.TheVariants.{Difference, Intersect};
-ghost use Rattle.mesh_outline.specs.Regions.{AreOutlineRegions};
+ghost use Rattle.mesh_boolean.specs.declared.rule.BooleanRule.TheVariants.{Difference};
 ghost use Rattle.mesh_uses.specs.Fills.{odd};
-ghost use Rattle.mesh_uses.specs.Styles.{bevelled};
+ghost use Rattle.mesh_uses.specs.Grown.{AreOverlapsOfGrown};
 
 use crate::offsets::grown;
 use i_overlay_mesh::laws::answers_wind_once;
@@ -52,10 +49,8 @@ pub fn overlap_of_grown(
     second: &Vec<IntPoint<i32>>,
     offset: i32,
 ) -> Result<IntShapes<i32>, IntOutlineError>
-    ensures { IfOk result (λ shapes. (one : List (List (List Point))) × (other : List (List (List Point)))
-        × AreOutlineRegions (2 ^ 30) (bevelled offset) plain (first.now.items ∷ []) one
-        × AreOutlineRegions (2 ^ 30) (bevelled offset) plain (second.now.items ∷ []) other
-        × AreOverlaidRegions Intersect one other plain (shapes_of shapes.items)) }
+    ensures { IfOk result (λ shapes. AreOverlapsOfGrown offset first.now.items second.now.items
+        (shapes_of shapes.items)) }
 {
     let one = grown(alloc, first, offset)?;
     let other = grown(alloc, second, offset)?;

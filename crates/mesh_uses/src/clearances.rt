@@ -1,11 +1,12 @@
 //! Whether copper keeps a distance from the tracks of a board, and whether nets keep it from each other.
 
-ghost use Rattle.std.specs.Prelude.{◌*◌, ◌<◌, ◌≤◌, ℕ, [], false, get_or, length, map, IfOk, IsTrue, MatchOption};
+ghost use Rattle.std.specs.Prelude.{◌*◌, ◌<◌, ◌≤◌, ℕ, false, length, IfOk, IsTrue, MatchOption};
 ghost use Rattle.std.specs.List.{flat_map};
 ghost use Rattle.mesh_num.specs.Paths.{contours_of, paths_of, shapes_of};
 ghost use Rattle.mesh_plane.specs.Winding.{boundary};
 ghost use Rattle.mesh_clearance.specs.Clearance.{AreAllApart, sections};
-ghost use Rattle.mesh_nets.specs.Nets.{AreNetsApart, edges_of};
+ghost use Rattle.mesh_nets.specs.Nets.{AreNetsApart};
+ghost use Rattle.mesh_uses.specs.Nets.{edges_at};
 
 use i_overlay_mesh::clearance::clearance_of;
 use i_overlay_mesh::{IntPoint, IntShapes, clearances};
@@ -40,9 +41,7 @@ pub fn keeps_clear(
 /// Whether no two points of different nets are nearer to each other than a distance.
 pub fn keep_apart(alloc: Global, nets: &[IntShapes<i32>], distance: u32) -> Result<bool, AllocError>
     ensures { IfOk result (λ keep. IsTrue keep → (i j : ℕ) → i < j → j < length nets.now
-        → AreNetsApart (distance * distance)
-        (edges_of (get_or (map (λ net. shapes_of net.items) nets.now) i []))
-        (edges_of (get_or (map (λ net. shapes_of net.items) nets.now) j []))) }
+        → AreNetsApart (distance * distance) (edges_at nets.now i) (edges_at nets.now j)) }
 {
     let near = clearances(alloc, nets, distance)?;
     Ok(near.is_empty())
