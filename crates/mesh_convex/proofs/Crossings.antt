@@ -1,9 +1,9 @@
 -- Lemmas over edges: how an edge of a convex loop crosses the ray to the east from the midpoint of another one.
-use Rattle.std.proofs.Common.{◌≡◌, ◌⊎◌, ⊎_elim, inl, inr, ℕ, Bool, true, false, cond, List, [], ◌∷◌, refl, sym, ◌∙◌, ap, subst, arith}
+use Rattle.std.proofs.Common.{◌≡◌, ◌⊎◌, ⊎_elim, Bool, true, cond, [], ◌∷◌, refl, sym, ◌∙◌, ap, subst, arith}
 use Rattle.std.specs.Prelude.{ℤ, pos, negsuc, ◌<ℤ◌, ◌≤ℤ◌, ◌+ℤ◌, ◌-ℤ◌, ◌*ℤ◌, int_le}
 use Rattle.std.proofs.lemmas.Int.{ints}
 use Rattle.mesh_plane.specs.Plane.{Point, Edge, plus, turn}
-use Rattle.mesh_plane.specs.Winding.{crossing_of, crossing_on, refined, same_point}
+use Rattle.mesh_plane.specs.Winding.{crossing_on, refined, same_point}
 use Rattle.mesh_plane.proofs.Balance.{growth}
 use Rattle.mesh_plane.proofs.Comparing.{at_most_test, decides_point, points_apart}
 use Rattle.mesh_plane.proofs.Crossings.{crossing_low, crossing_high, crossing_up, crossing_down}
@@ -86,7 +86,7 @@ PassesUp e f = (twice_as_high f.0 ≤ℤ height_of e) × (height_of e <ℤ twice
 abbrev PassesDown : Edge → Edge → Type 0
 PassesDown e f = (height_of e <ℤ twice_as_high f.0) × (twice_as_high f.1 ≤ℤ height_of e)
 
-le_or_lt : (a b : ℤ) → (a ≤ℤ b) ⊎ (b <ℤ a)
+pub le_or_lt : (a b : ℤ) → (a ≤ℤ b) ⊎ (b <ℤ a)
 le_or_lt a b = grind (arith, ints)
 
 not_less : (a b : ℤ) → a ≤ℤ b → b <ℤ a → ⊥

@@ -1,5 +1,5 @@
 -- Lemmas over edges: how a convex loop winds beside its edges.
-use Rattle.std.proofs.Common.{◌≡◌, ◌⊎◌, ⊎_elim, inl, inr, ℕ, zero, suc, ◌<◌, ◌≤◌, Bool, true, false, cond, ◌||◌, ◌&&◌, List, [], ◌∷◌, length, refl, sym, ◌∙◌, ap, arith}
+use Rattle.std.proofs.Common.{◌≡◌, ◌⊎◌, ⊎_elim, inl, inr, ℕ, zero, suc, ◌<◌, Bool, true, false, cond, ◌||◌, ◌&&◌, List, [], ◌∷◌, length, refl, sym, ◌∙◌, ap, arith}
 use Rattle.std.specs.Prelude.{ℤ, pos, ◌<ℤ◌, ◌≤ℤ◌, ◌+ℤ◌, int_lt}
 use Rattle.std.specs.List.{All}
 use Rattle.std.specs.Ordering.{int_eq}
@@ -17,7 +17,7 @@ use Rattle.mesh_lattice.specs.Split.{back}
 use Rattle.mesh_lattice.proofs.Ends.{decides_ends}
 use Rattle.mesh_convex.specs.Convex.{edge_at, start_at, IsConvexLoop}
 use Rattle.mesh_convex.proofs.Clear.{edges_differ, end_left, start_left, starts_differ}
-use Rattle.mesh_convex.proofs.Crossings.{crossing_at, eastward_crossing, falling_crossing, mark, marked, none_crosses, sunk, unmarked, AreOfLoop, CrossesAs}
+use Rattle.mesh_convex.proofs.Crossings.{crossing_at, eastward_crossing, falling_crossing, le_or_lt, mark, marked, none_crosses, sunk, unmarked, AreOfLoop, CrossesAs}
 use Rattle.mesh_convex.proofs.Turns.{less_or_same}
 
 -- what holds at each place holds of all
@@ -110,9 +110,6 @@ data Way (e : Edge) : Type 0 where
   rising : (e.0.1 <ℤ e.1.1) ⊎ ((e.0.1 ≡ e.1.1) × (e.1.0 <ℤ e.0.0)) → rises e ≡ true → Way e
   falling : e.1.1 <ℤ e.0.1 → rises e ≡ false → Way e
   eastward : e.0.1 ≡ e.1.1 → e.0.0 <ℤ e.1.0 → rises e ≡ false → Way e
-
-le_or_lt : (a b : ℤ) → (a ≤ℤ b) ⊎ (b <ℤ a)
-le_or_lt a b = grind (arith, ints)
 
 not_equal : (a b : ℤ) → a <ℤ b → int_eq b a ≡ false
 not_equal a b h = by (int_eq b a) (λ t. (Decides-int_eq b a).0 t)
