@@ -2,12 +2,14 @@
 """Times outlines and strokes beside Clipper, Boost.Polygon and GEOS, prints a table of ratios, and draws them.
 
     bench/peers/ratios.py [PROGRAM] [--most N] [--rounds N] [--seconds S] [--limit SECONDS] > table.md
+    bench/peers/ratios.py [PROGRAM] --requests FOLDER > table.md
 
 PROGRAM is `mesh_bench`, which `rt run` makes in crates/mesh_bench. The libraries beside it are Debian's
 (libpolyclipping-dev, libboost-dev, libgeos-dev), driven by peers.cpp. Each answers the same drawing in one process,
 without reading and writing, in turn; the least processor time counts, up to 10,000 vertices that of all rounds. A ratio is
 our time over the better one of Clipper and Boost.Polygon, which are exact as ours is; GEOS computes in floating point and
-simplifies a drawing first, so its time stands beside. The picture is docs/peers.svg.
+simplifies a drawing first, so its time stands beside. The picture is docs/peers.svg. With --requests the drawings are
+the files of a folder, as bench/real.py writes them, and no picture is drawn.
 """
 import argparse
 import json
@@ -190,6 +192,16 @@ def styled_cases(size):
     return [*outlines, *strokes]
 
 
+def read_cases(folder):
+    """The requests in the files of a folder, by their names."""
+    cases = []
+    for file in sorted(folder.glob("*.json")):
+        request = json.loads(file.read_text(encoding="utf-8"))
+        join = next(name for name, known in JOINS.items() if request["style"]["join"] == known)
+        cases.append(Case(file.stem, sum(map(len, request["paths"])), join, lambda asked=request: asked))
+    return cases
+
+
 def measured(words, driver, cases):
     """The least times of each case, round after round, so that a busy moment does not count."""
     rows = {}
@@ -208,7 +220,12 @@ def main():
     parser.add_argument("--rounds", type=int, default=1, metavar="N", help="how often all is measured")
     parser.add_argument("--seconds", type=seconds_above_zero, default=0.2, help="about how long each is repeated")
     parser.add_argument("--limit", type=seconds_above_zero, default=60, metavar="SECONDS", help="of one process")
+    parser.add_argument("--requests", type=pathlib.Path, metavar="FOLDER", help="measure the requests in its files")
     words = parser.parse_args()
+    if words.requests:
+        with tempfile.TemporaryDirectory() as folder:
+            print_rows(measured(words, build(folder), read_cases(words.requests)))
+        return
     sizes = [count for count in SIZES if count <= words.most] or SIZES[:1]
     size = min(STYLED_SIZE, words.most)
     with tempfile.TemporaryDirectory() as folder:
