@@ -1,0 +1,11 @@
+//! Cuts made again in another order, where rounding bent a path too far.
+//!
+//! Where cuts follow each other closely, each moves what the next one cuts, so that some paths end up many units beside
+//! their edges. In another order of the same cuts this seldom happens at the same place. `groups` finds the paths that are
+//! bent too far and all that hang together with these, since only their cuts depend on each other; `anew` cuts all edges
+//! again, these last and in another order. What comes of it is as legal as before, whatever `groups` finds.
+#![tactic(auto)]
+
+pub mod anew;
+pub mod groups;
+mod order;
