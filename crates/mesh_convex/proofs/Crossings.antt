@@ -103,9 +103,6 @@ by_heights P e f low up down high =
     ⊎_elim (λ (b : twice_as_high f.1 ≤ℤ height_of e). down (a, b)) (λ (b : height_of e <ℤ twice_as_high f.1). high a b) (le_or_lt (twice_as_high f.1) (height_of e)))
     (le_or_lt (twice_as_high f.0) (height_of e))
 
-double_nonneg : (s : ℤ) → pos 0 ≤ℤ s → pos 0 ≤ℤ (pos 2 *ℤ s)
-double_nonneg s h = omega (arith, ints)
-
 both_not_negative : (e f : Edge) → AreOfLoop e f → pos 0 ≤ℤ both_turns e f
 both_not_negative e f o =
     let a = not_negative f e.0 o.own_start_beside in
