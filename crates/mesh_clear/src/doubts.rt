@@ -1,18 +1,19 @@
 //! Pairs of paths that are not known to be clear of each other.
 
-ghost use Rattle.std.specs.Prelude.{IfOk, IfSome, OnOk};
+ghost use Rattle.std.specs.Prelude.{◌<◌, ◌≤◌};
 ghost use Rattle.std.specs.List.{All};
 ghost use Rattle.mesh_pairs.specs.Pairs.{AreFound, IsClose, IsMeeting};
 ghost use Rattle.mesh_paths.specs.Paths.{ArePaths};
-ghost use Rattle.mesh_clear.specs.AllClear.{ArePathsOf};
+ghost use Rattle.mesh_paths.specs.Stops.{count_of, pieces_of};
 ghost use Rattle.mesh_clear.specs.Private.Looking.{AreBends};
 
 use crate::bends::bends_of;
 use crate::check::{Progress, is_next_clear, is_pair_clear};
+use crate::ends::is_clear_at_end;
 use crate::fit::are_fit;
 use crate::visits::{Visits, visits_of};
 use mesh_pairs::pairs::{Meeting, Pairs};
-use mesh_paths::paths::Paths;
+use mesh_paths::paths::{Paths, Piece};
 use std::alloc::{AllocError, Global};
 
 /// Adds the pairs from a place on that met and are not known to be clear.
@@ -28,8 +29,6 @@ fn push_meetings(
 ) -> Result<(), AllocError>
     requires bends { AreBends paths.now bends.now }
     requires meetings { All (IsMeeting paths.now.edges.items) meetings.now }
-    requires paths { All (ArePathsOf paths.now) doubts.old.items }
-    ensures { OnOk result (All (ArePathsOf paths.now) doubts.new.items) }
 {
     for k in first..meetings.len() {
         if doubts.len() > most_doubts {
@@ -54,8 +53,6 @@ fn push_close(
 ) -> Result<(), AllocError>
     requires bends { AreBends paths.now bends.now }
     requires close { All (IsClose paths.now.edges.items) close.now }
-    requires paths { All (ArePathsOf paths.now) doubts.old.items }
-    ensures { OnOk result (All (ArePathsOf paths.now) doubts.new.items) }
 {
     for pair in close {
         if doubts.len() > most_doubts {
@@ -68,8 +65,55 @@ fn push_close(
     Ok(())
 }
 
-/// The pairs of paths whose edges met or were close, and whose pieces are not known to be clear of each other after
-/// `most` comparisons of pieces, but for those that a check found clear before it gave up. No more are sought once there
+/// Adds the pairs of a path that has a stop at this place and of each later one that ends there, one of which was cut, that
+/// are not known to be clear.
+fn push_at(
+    paths: &Paths,
+    bends: &[u64],
+    end: Piece,
+    left: &mut usize,
+    doubts: &mut Vec<(u32, u32)>,
+) -> Result<(), AllocError>
+    requires bends { AreBends paths.now bends.now }
+    requires end { end.path < count_of paths.now.stops }
+    requires place { end.place ≤ pieces_of paths.now.stops end.path }
+{
+    let id = paths.stops.stop(end.path as usize, end.place).id;
+    let mut rest = paths.through.last(id);
+    while rest > 0 {
+        let pass = paths.through.pass(rest - 1);
+        if !is_clear_at_end(paths, bends, end, id, pass.path, left) {
+            doubts.push((end.path, pass.path))?;
+        }
+        rest = pass.before;
+    }
+    Ok(())
+}
+
+/// Adds the pairs that share an end and are not known to be clear.
+fn push_ends(
+    paths: &Paths,
+    bends: &[u64],
+    left: &mut usize,
+    doubts: &mut Vec<(u32, u32)>,
+    most_doubts: usize,
+) -> Result<(), AllocError>
+    requires { AreBends paths.now bends.now }
+{
+    for path in 0..paths.edges.len() {
+        if doubts.len() > most_doubts {
+            return Ok(());
+        }
+        let path = path as u32;
+        push_at(paths, bends, Piece { path, place: 0 }, left, doubts)?;
+        let place = paths.stops.pieces(path as usize);
+        push_at(paths, bends, Piece { path, place }, left, doubts)?;
+    }
+    Ok(())
+}
+
+/// The pairs of paths whose edges met, were close or share an end, and whose pieces are not known to be clear of each other
+/// after `most` comparisons of pieces, but for those that a check found clear before it gave up. No more are sought once there
 /// are more than `most_doubts`. `None` where a path is bent by more than 8 units, and where a coordinate is not below 2^30
 /// in size.
 pub fn doubtful_pairs(
@@ -82,7 +126,6 @@ pub fn doubtful_pairs(
 ) -> Result<Option<Vec<(u32, u32)>>, AllocError>
     requires paths { ArePaths paths.now }
     requires found { AreFound paths.now.edges.items pairs.now }
-    ensures { IfOk result (λ o. IfSome o (λ doubts. All (ArePathsOf paths.now) doubts.items)) }
 {
     if !are_fit(paths) {
         return Ok(None);
@@ -112,5 +155,6 @@ pub fn doubtful_pairs(
         &mut doubts,
         most_doubts,
     )?;
+    push_ends(paths, &bends, &mut left, &mut doubts, most_doubts)?;
     Ok(Some(doubts))
 }

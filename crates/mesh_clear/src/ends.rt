@@ -24,7 +24,7 @@ fn are_whole(paths: &Paths, first: u32, second: u32) -> bool
 /// Whether a path that has a stop at this place is clear of another one, if that is a later one that ends at the stop and
 /// one of both was cut. `id` is the stop's number.
 #[inline]
-fn is_clear_at_end(
+pub fn is_clear_at_end(
     paths: &Paths,
     bends: &[u64],
     end: Piece,
