@@ -1,5 +1,5 @@
 -- Lemmas over lists: attempts in arrays, and their splits, which are counted on.
-use Rattle.std.proofs.Common.{◌≡◌, ℕ, List, length, reverse, ◌∙◌, arith}
+use Rattle.std.proofs.Common.{◌≡◌, ◌≤◌, ℕ, List, length, reverse, ◌∙◌}
 use Rattle.std.proofs.lemmas.List.{length-map, length-reverse}
 use Rattle.mesh_plane.specs.Plane.{Point, Edge}
 use Rattle.mesh_lattice.specs.Counted.{Counted}
@@ -14,8 +14,8 @@ pub splits_many : (made : List (Edge × Point)) → length (latest_first made) �
 splits_many made = length-map (reverse made) _ ∙ length-reverse made
 
 -- of more attempts
-pub made_fewer : (given : List Edge) (old new : SplitCount) (ks : List Counted) (k : ℕ) → IsMadeAmong 1 given old new ks k → IsMadeAmong 52 given old new ks k
-made_fewer given old new ks k h = record { told = h.told; counted = with_fewer 1 52 (omega arith) given old new h.told.splitting.splits h.counted }
+pub made_fewer : (m n : ℕ) → m ≤ n → (given : List Edge) (old new : SplitCount) (ks : List Counted) (k : ℕ) → IsMadeAmong m given old new ks k → IsMadeAmong n given old new ks k
+made_fewer m n less given old new ks k h = record { told = h.told; counted = with_fewer m n less given old new h.told.splitting.splits h.counted }
 
-pub made_after : (given : List Edge) (old now new : SplitCount) (ks : List Counted) (k : ℕ) → CountsAtMost 1 given old now → IsCountedSplitting given now new ks k → IsMadeAmong 52 given old new ks k
-made_after given old now new ks k first h = record { told = h.told; counted = counts_with 1 51 given old now new h.told.splitting.splits first h.counted }
+pub made_after : (given : List Edge) (old now new : SplitCount) (ks : List Counted) (k : ℕ) → CountsAtMost 4 given old now → IsCountedSplitting given now new ks k → IsMadeAmong 55 given old new ks k
+made_after given old now new ks k first h = record { told = h.told; counted = counts_with 4 51 given old now new h.told.splitting.splits first h.counted }

@@ -114,8 +114,8 @@ told_of : (given : List Edge) (splits : List EdgeSplit) (ks : List Counted) (k :
 unfolding splitting_of
 told_of given splits ks k proper s near = record { splitting = splitting_of given splits ks proper s; nearness = near }
 
--- the same, made by one attempt
-pub made_by : (given : List Edge) (splits : List EdgeSplit) (ks : List Counted) (k : ℕ) (old new : SplitCount) → IsProper given → AreSettled given splits ks → IsNearness given splits k
-    → CountsAmong 1 given old new splits → IsMadeAmong 1 given old new ks k
+-- the same, made by one of so many attempts
+pub made_by : (most : ℕ) (given : List Edge) (splits : List EdgeSplit) (ks : List Counted) (k : ℕ) (old new : SplitCount) → IsProper given → AreSettled given splits ks → IsNearness given splits k
+    → CountsAmong most given old new splits → IsMadeAmong most given old new ks k
 unfolding splitting_of told_of
-made_by given splits ks k old new proper s near counts = record { told = told_of given splits ks k proper s near; counted = counts }
+made_by most given splits ks k old new proper s near counts = record { told = told_of given splits ks k proper s near; counted = counts }

@@ -17,7 +17,7 @@ no_split es old new sum = counts_one es old new [] no_cut sum
 
 pub loop_made : (es : List Edge) (ks : List Counted) (old new : SplitCount) → IsConvexLoop es → IsProper es → IsCountOf es ks → new ≡ counted old 0 → IsMadeAmong 1 es old new ks 0
 loop_made es ks old new c proper count sum =
-    made_by es [] ks 0 old new proper
+    made_by 1 es [] ks 0 old new proper
     (record { reached = record { legal = no_cut; count = count }; clean = loop_clean es c proper })
     (record { witnessed = []; same = refl; near = tt; reached = λ l h. absurd (omega (arith, h)) })
     (no_split es old new sum)

@@ -1,15 +1,16 @@
 -- What an attempt in arrays answers.
-use Rattle.std.specs.Prelude.{ℕ, ◌≡◌, ◌+◌, List, length}
+use Rattle.std.specs.Prelude.{ℕ, List}
+use Rattle.std.specs.List.{Contains}
 use Rattle.mesh_plane.specs.Plane.{Edge}
 use Rattle.mesh_lattice.specs.Clean.{IsClean}
 use Rattle.mesh_lattice.specs.Counted.{Counted}
 use Rattle.mesh_lattice.specs.Split.{after, EdgeSplit}
 use Rattle.mesh_lattice.specs.Nearness.{IsNearness}
-use Rattle.mesh_split.specs.Counting.{counted, CountsAmong}
+use Rattle.mesh_split.specs.Counting.{CountsAmong}
 use Rattle.mesh_rounds.specs.Told.{IsToldSplitting}
 use Rattle.mesh_split.specs.declared.count.SplitCount.{SplitCount}
 use Rattle.mesh_paths.specs.Pieces.{AreReached}
-use Rattle.mesh_ahead.specs.Counting.{most_attempts}
+use Rattle.mesh_ahead.specs.Counting.{most_attempts, CountsAfter}
 
 -- the segments that legal splits make of given edges, each once, with its net count, any two of which share only common
 -- ends
@@ -26,9 +27,11 @@ pub record IsMadeAmong (most : ℕ) (given : List Edge) (old new : SplitCount) (
 abbrev pub IsCountedSplitting : List Edge → SplitCount → SplitCount → List Counted → ℕ → Type 0
 IsCountedSplitting = IsMadeAmong most_attempts
 
--- the segments that a legal splitting makes of edges, and its nearness, of which the splits were counted, and so many before
+-- the segments that a legal splitting makes of edges, and its nearness, made by one of the attempts in arrays, of which all
+-- splits were counted, and so many before each
 pub record IsMadeAfter (before : ℕ) (edges : List Edge) (old new : SplitCount) (segments : List Counted) (k : ℕ) : Type 0 where
   pub splits : List EdgeSplit
   pub settled : AreSettled edges splits segments
   pub nearness : IsNearness edges splits k
-  pub counted : new ≡ counted old (before + length splits)
+  pub counts : CountsAfter before edges old new
+  pub listed : Contains counts.attempts splits

@@ -9,20 +9,17 @@ ghost use Rattle.mesh_lattice.specs.Splitting.{IsSplitting};
 ghost use Rattle.mesh_split.specs.Counting.{counted, CountsAtMost, IsReason, IsWithinLimit};
 ghost use Rattle.mesh_rounds.specs.Told.{IsToldSplitting};
 ghost use Rattle.mesh_convex.specs.Convex.{IsConvexLoop};
-ghost use Rattle.mesh_pairs.specs.Pairs.{AreFound};
-ghost use Rattle.mesh_paths.specs.Paths.{ArePaths};
 ghost use Rattle.mesh_attempt.specs.Attempts.{AreCut};
 ghost use Rattle.mesh_clear.specs.AllClear.{AreAllClear};
 ghost use Rattle.mesh_in_line.specs.InLine.{AreCutInLine};
 ghost use Rattle.mesh_ahead.specs.Ahead.{AreSettled, IsCountedSplitting, IsMadeAfter, IsMadeAmong};
-ghost use Rattle.mesh_ahead.specs.Counting.{CountsAfter, CountsSplits};
+ghost use Rattle.mesh_ahead.specs.Counting.{attempts_in_arrays, CountsAfter, CountsSplits};
 
 use crate::boxes::do_arrays_serve;
-use crate::mending::mend;
 use crate::nearness::nearness;
 use crate::segments::counted_segments;
-use mesh_attempt::attempt::{CutEdges, cut_edges};
-use mesh_clear::check::{NO_PROGRESS, are_all_clear};
+use crate::settling::{count_on, cut_and_settled};
+use mesh_attempt::attempt::CutEdges;
 use mesh_convex::convex::{is_convex_loop, split_convex_loop};
 use mesh_in_line::in_line::{CutInLine, cut_in_line};
 use mesh_in_line::samples::are_many_in_line;
@@ -32,17 +29,6 @@ use mesh_rounds::splitter as rounds;
 pub use mesh_rounds::splitter::ToldSplitting;
 use mesh_split::count::{SplitCount, SplitError};
 use std::alloc::{AllocError, Global};
-
-/// Where more pairs of edges meet or come close, an attempt is given up. A pair takes 24 bytes, so twice as many would take
-/// twice the memory.
-const MOST_PAIRS: usize = 1 << 23;
-
-/// Of pieces that lines do not part so many pairs are compared for each edge, before an attempt is given up. Twice as many
-/// would serve some hatches, and cost others as much again before the rounds.
-const COMPARISONS: usize = 16;
-
-/// Pieces that meet still are cut again so often. What meets then seldom comes to an end.
-const TURNS: usize = 4;
 
 /// The pieces as segments, where no two of them meet.
 fn segments_of(
@@ -58,68 +44,6 @@ fn segments_of(
 {
     let pieces = collect(alloc, &cut.paths)?;
     counted_segments(alloc, &pieces.list)
-}
-
-/// Counts the splits of an attempt on. `TooManySplits`: they pass the limit.
-fn count_on(count: &mut SplitCount, splits: usize) -> Result<(), SplitError>
-    ensures sum { count.new ≡ counted count.old splits }
-    ensures within { OnOk result (IsWithinLimit count.new) }
-    ensures refused { IfErr result (λ e. IsReason e count.new) }
-{
-    count.made = count.made.saturating_add(splits as u64);
-    if 0 < count.most && count.most < count.made {
-        return Err(SplitError::TooManySplits);
-    }
-    Ok(())
-}
-
-/// Whether any two pieces are clear of each other, once those that meet still were cut again, a few times at most.
-fn settle(alloc: Global, cut: &mut CutEdges, most: usize) -> Result<bool, AllocError>
-    requires paths { ArePaths cut.old.paths }
-    requires found { AreFound cut.old.paths.edges.items cut.old.pairs }
-    ensures cut { OnOk result ((given : List Edge) → AreCut given cut.old → AreCut given cut.new) }
-    ensures clear { IfOk result (λ clear. IsTrue clear → AreAllClear cut.new.paths) }
-{
-    for _ in 0..TURNS {
-        let mut progress = NO_PROGRESS;
-        if are_all_clear(alloc, &cut.paths, &cut.pairs, most, &mut progress)? {
-            return Ok(true);
-        }
-        if !mend(alloc, &mut cut.paths, &cut.pairs, most, progress)? {
-            return Ok(false);
-        }
-    }
-    let mut progress = NO_PROGRESS;
-    are_all_clear(alloc, &cut.paths, &cut.pairs, most, &mut progress)
-}
-
-/// How many splits may be made before the limit of a count is passed.
-fn splits_left(count: SplitCount) -> usize {
-    if count.most == 0 {
-        return usize::MAX;
-    }
-    count.most.saturating_sub(count.made) as usize
-}
-
-/// The paths that edges are cut into, and whether their pieces are clear of each other. `None` where the attempt is given
-/// up. It stops once it has made more than `most_splits` splits.
-fn cut_and_settled(
-    alloc: Global,
-    edges: &[LatticeEdge],
-    most_splits: usize,
-) -> Result<Option<(CutEdges, bool)>, AllocError>
-    requires { IsProper edges.now }
-    ensures cut { IfOk result (λ o. IfSome o (λ c. AreCut edges.now c.0)) }
-    ensures clear { IfOk result (λ o. IfSome o (λ c. IsTrue c.1 → AreAllClear c.0.paths)) }
-{
-    let Some(mut cut) = cut_edges(alloc, edges, MOST_PAIRS, most_splits)? else {
-        return Ok(None);
-    };
-    if cut.paths.splits.made().len() > most_splits {
-        return Ok(Some((cut, false)));
-    }
-    let clear = settle(alloc, &mut cut, edges.len().saturating_mul(COMPARISONS))?;
-    Ok(Some((cut, clear)))
 }
 
 /// The edges cut at each other's ends where many are level or upright and lie in line. `None` where they stay as they are.
@@ -141,7 +65,13 @@ fn splitting_of(
     ensures splitting { IfOk result (λ o. IfSome o (λ v. IsSplitting edges.now v.items)) }
     ensures room { IfOk result (λ o. IfSome o (λ v. IsRoomy (sum_of size v.items))) }
 {
-    let Some((cut, clear)) = cut_and_settled(alloc, edges, usize::MAX)? else {
+    let mut count = SplitCount::new(0);
+    let settled = match cut_and_settled(alloc, edges, 0, &mut count) {
+        Ok(settled) => settled,
+        Err(SplitError::OutOfMemory) => return Err(AllocError),
+        Err(SplitError::TooManySplits) => unreachable!(),
+    };
+    let Some((cut, clear)) = settled else {
         return Ok(None);
     };
     if !clear {
@@ -187,10 +117,7 @@ fn told_after(
     ensures within { IfOk result (λ o. IfSome o (λ _. IsWithinLimit count.new)) }
     ensures refused { IfErr result (λ e. IsReason e count.new) }
 {
-    // Read, so that it is known to fit: a return before any split is made counts none.
-    let _made = count.made;
-    let left = splits_left(*count).saturating_sub(before);
-    let Some((cut, clear)) = cut_and_settled(alloc, edges, left)? else {
+    let Some((cut, clear)) = cut_and_settled(alloc, edges, before, count)? else {
         return Ok(None);
     };
     count_on(count, before.saturating_add(cut.paths.splits.made().len()))?;
@@ -236,10 +163,10 @@ fn told_in_arrays(
 ) -> Result<Option<ToldSplitting>, SplitError>
     requires { IsProper edges.now }
     ensures made { IfOk result (λ o. IfSome o (λ told.
-        IsMadeAmong 1 edges.now count.old count.new told.segments.items told.nearness)) }
+        IsMadeAmong attempts_in_arrays edges.now count.old count.new told.segments.items told.nearness)) }
     ensures room { IfOk result (λ o. IfSome o (λ told. IsRoomy (sum_of size told.segments.items))) }
     ensures small { IfOk result (λ o. IfSome o (λ told. told.nearness ≤ 2 ^ 38)) }
-    ensures counted { CountsAtMost 1 edges.now count.old count.new }
+    ensures counted { CountsAtMost attempts_in_arrays edges.now count.old count.new }
     ensures within { IfOk result (λ o. IfSome o (λ _. IsWithinLimit count.new)) }
     ensures refused { IfErr result (λ e. IsReason e count.new) }
 {
@@ -272,7 +199,7 @@ pub fn split_edges(alloc: Global, edges: &[LatticeEdge]) -> Result<Vec<CountedSe
 }
 
 /// The same, and tells how near the splits lie to the edges. The splits are counted on, those of attempts that were
-/// given up too, whatever comes of it; there are at most 52 attempts. It fails where memory is refused, and where the
+/// given up too, whatever comes of it; there are at most 55 attempts. It fails where memory is refused, and where the
 /// splits pass the limit of the count, if it has one.
 pub fn split_edges_told(
     alloc: Global,

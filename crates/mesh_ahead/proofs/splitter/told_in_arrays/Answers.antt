@@ -1,7 +1,8 @@
-use Rattle.std.proofs.Common.{rules, subst}
+use Rattle.std.proofs.Common.{subst, arith}
 use Rattle.mesh_store.proofs.Lists.{if_ok}
 use Rattle.mesh_ahead.specs.Ahead.{IsMadeAfter}
 use Rattle.mesh_ahead.specs.Counting.{CountsAfter}
+use Rattle.mesh_ahead.proofs.Attempts.{made_fewer}
 use Rattle.mesh_ahead.proofs.InLine.{counts_from, cut_proper, if_some, made_from, uncut}
 use Rattle.mesh_ahead.proofs.splitter.told_in_arrays.Goals as goal
 
@@ -15,7 +16,7 @@ returns-in_default-clause-made c =
 
 pub returns-in_default-clause-counted : goal.returns-in_default-clause-counted
 returns-in_default-clause-counted c =
-    counts_from c.args.edges.now c.args.edges.now 0 c.args.count.now c.told_after.new.count (search rules) (uncut c.args.edges.now) c.told_after.ensures.counted
+    counts_from c.args.edges.now c.args.edges.now 0 c.args.count.now c.told_after.new.count (uncut c.args.edges.now) c.told_after.ensures.counted
 
 pub told_after-requires-2 : goal.told_after-requires-2
 told_after-requires-2 c =
@@ -32,5 +33,9 @@ returns-clause-made c =
 
 pub returns-clause-counted : goal.returns-clause-counted
 returns-clause-counted c =
-    counts_from c.args.edges.now c.in-Some.cut.edges.items c.in-Some.cut.splits c.args.count.now c.told_after-2.new.count (search rules) (rw c.in-Some.is at c.in_ok-cut.ensures)
+    counts_from c.args.edges.now c.in-Some.cut.edges.items c.in-Some.cut.splits c.args.count.now c.told_after-2.new.count (rw c.in-Some.is at c.in_ok-cut.ensures)
     (subst (λ es. CountsAfter c.in-Some.cut.splits es c.args.count.now c.told_after-2.new.count) c.deref.ensures.value c.told_after-2.ensures.counted)
+
+pub returns-then-is_convex_loop-clause-made : goal.returns-then-is_convex_loop-clause-made
+returns-then-is_convex_loop-clause-made c =
+    made_fewer 1 4 (omega arith) c.args.edges.now c.args.count.now c.told_of_convex_loop.new.count c.in_ok-told_of_convex_loop.field-0.segments.items c.in_ok-told_of_convex_loop.field-0.nearness c.in_ok-told_of_convex_loop.ensures.made
