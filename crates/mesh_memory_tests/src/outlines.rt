@@ -167,19 +167,30 @@ fn add<I: OverlayInt>(
     Ok(())
 }
 
-/// The builder keeps a buffer for its arcs, so what is wanted comes from another one.
+/// Memory is refused for the edges of the contour's outline, and then they are added by the same builder. What is wanted
+/// comes from another one, since a builder keeps a buffer for its arcs.
+fn expect_built_again(
+    alloc: Global,
+    contour: &Vec<IntPoint<i32>>,
+    style: &IntOutlineStyle<i32>,
+    wanted: &[Segment<i32>],
+    segments: &mut Vec<Segment<i32>>,
+) -> Result<(), Fail> {
+    let mut builder = builder(alloc, style);
+    marks::begin(alloc)?;
+    let first = add(&mut builder, contour, style, segments);
+    marks::end(alloc)?;
+    expect_added(first.is_ok(), segments, wanted)?;
+    segments.truncate(1);
+    add(&mut builder, contour, style, segments)?;
+    expect_added(true, segments, wanted)
+}
+
 #[test]
 fn building(rt: HostRuntime) -> Result<(), Fail> {
     let (contour, style) = (path(rt.alloc(), CONTOURS[0])?, round());
     let (mut wanted, mut segments) = (one_segment(rt.alloc())?, one_segment(rt.alloc())?);
     let mut other = builder(rt.alloc(), &style);
     add(&mut other, &contour, &style, &mut wanted)?;
-    let mut builder = builder(rt.alloc(), &style);
-    marks::begin(rt.alloc())?;
-    let first = add(&mut builder, &contour, &style, &mut segments);
-    marks::end(rt.alloc())?;
-    expect_added(first.is_ok(), &segments, &wanted)?;
-    segments.truncate(1);
-    add(&mut builder, &contour, &style, &mut segments)?;
-    expect_added(true, &segments, &wanted)
+    expect_built_again(rt.alloc(), &contour, &style, &wanted, &mut segments)
 }

@@ -12,6 +12,7 @@ use mesh_join::style::{
 };
 use mesh_num::num::{Angle, IntPoint};
 use mesh_num::shape::buffer::{FlatContoursBuffer, IntShapes};
+use mesh_num::shape::segment::Segment;
 use mesh_test_support::compared::{are_same_edges, expect_equal, expect_that};
 use mesh_test_support::edges::edges_of_segments;
 use mesh_test_support::lists::{path, paths};
@@ -149,21 +150,45 @@ fn stroke_with_nearness(rt: HostRuntime) -> Result<(), Fail> {
     expect_told(rt.alloc(), &drawn(rt.alloc(), false)?, OUT_OF_MEMORY)
 }
 
-/// The builder keeps a buffer for its arcs, so what is wanted comes from another one.
+/// Adds the edges of the line's stroke, by a builder of their own.
+fn add(
+    alloc: Global,
+    line: &Vec<IntPoint<i32>>,
+    style: &IntStrokeStyle<i32>,
+    is_closed: bool,
+    segments: &mut Vec<Segment<i32>>,
+) -> Result<(), IntOutlineError> {
+    line.validate_stroke(style)?;
+    StrokeBuilder::new(alloc, style).build(line, is_closed, segments)?;
+    Ok(())
+}
+
+/// Memory is refused for the edges of the line's stroke, and then they are added by the same builder. What is wanted
+/// comes from another one, since a builder keeps a buffer for its arcs.
+fn expect_built_again(
+    alloc: Global,
+    line: &Vec<IntPoint<i32>>,
+    style: &IntStrokeStyle<i32>,
+    wanted: &[Segment<i32>],
+    segments: &mut Vec<Segment<i32>>,
+) -> Result<(), Fail> {
+    line.validate_stroke(style)?;
+    let mut builder = StrokeBuilder::new(alloc, style);
+    marks::begin(alloc)?;
+    let first = builder.build(line, false, segments);
+    marks::end(alloc)?;
+    expect_added(first.is_ok(), segments, wanted)?;
+    segments.truncate(1);
+    builder.build(line, false, segments)?;
+    expect_added(true, segments, wanted)
+}
+
 #[test]
 fn building(rt: HostRuntime) -> Result<(), Fail> {
     let (line, style) = (path(rt.alloc(), LINES[0])?, pointed(rt.alloc())?);
-    line.validate_stroke(&style)?;
     let (mut wanted, mut segments) = (one_segment(rt.alloc())?, one_segment(rt.alloc())?);
-    StrokeBuilder::new(rt.alloc(), &style).build(&line, false, &mut wanted)?;
-    let mut builder = StrokeBuilder::new(rt.alloc(), &style);
-    marks::begin(rt.alloc())?;
-    let first = builder.build(&line, false, &mut segments);
-    marks::end(rt.alloc())?;
-    expect_added(first.is_ok(), &segments, &wanted)?;
-    segments.truncate(1);
-    builder.build(&line, false, &mut segments)?;
-    expect_added(true, &segments, &wanted)
+    add(rt.alloc(), &line, &style, false, &mut wanted)?;
+    expect_built_again(rt.alloc(), &line, &style, &wanted, &mut segments)
 }
 
 /// Three sides of a square, and all four where the path is closed.
@@ -185,14 +210,12 @@ fn expect_built_in_room(
     count: usize,
 ) -> Result<(), Fail> {
     let (line, style) = (path(alloc, SQUARE)?, clipped());
-    line.validate_stroke(&style)?;
     let mut wanted = Vec::new(alloc);
-    StrokeBuilder::new(alloc, &style).build(&line, is_closed, &mut wanted)?;
+    add(alloc, &line, &style, is_closed, &mut wanted)?;
     let (mut segments, mut others) = (Vec::with_capacity(alloc, room)?, Vec::new(alloc));
-    let mut builder = StrokeBuilder::new(alloc, &style);
     marks::begin(alloc)?;
-    let first = builder.build(&line, is_closed, &mut segments);
-    let second = builder.build(&line, is_closed, &mut others);
+    let first = add(alloc, &line, &style, is_closed, &mut segments);
+    let second = add(alloc, &line, &style, is_closed, &mut others);
     marks::end(alloc)?;
     expect_that(first.is_ok(), &"room for the edges")?;
     expect_that(

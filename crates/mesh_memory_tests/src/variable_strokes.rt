@@ -140,19 +140,29 @@ fn add<I: OverlayInt>(
     Ok(())
 }
 
-/// The builder keeps a buffer for its arcs, so what is wanted comes from another one.
+/// Memory is refused for the edges of the path's stroke, and then they are added by the same builder. What is wanted
+/// comes from another one, since a builder keeps a buffer for its arcs.
+fn expect_built_again(
+    alloc: Global,
+    path: &Vec<IntStrokeVertex<i32>>,
+    wanted: &[Segment<i32>],
+    segments: &mut Vec<Segment<i32>>,
+) -> Result<(), Fail> {
+    let mut builder = VariableStrokeBuilder::new(alloc, eighths());
+    marks::begin(alloc)?;
+    let first = add(&mut builder, path, segments);
+    marks::end(alloc)?;
+    expect_added(first.is_ok(), segments, wanted)?;
+    segments.truncate(1);
+    add(&mut builder, path, segments)?;
+    expect_added(true, segments, wanted)
+}
+
 #[test]
 fn building(rt: HostRuntime) -> Result<(), Fail> {
     let path = vertices(rt.alloc(), &[(0, 0, 8), (40, 0, 8), (40, 40, 4)])?;
     let (mut wanted, mut segments) = (one_segment(rt.alloc())?, one_segment(rt.alloc())?);
     let mut other = VariableStrokeBuilder::new(rt.alloc(), eighths());
     add(&mut other, &path, &mut wanted)?;
-    let mut builder = VariableStrokeBuilder::new(rt.alloc(), eighths());
-    marks::begin(rt.alloc())?;
-    let first = add(&mut builder, &path, &mut segments);
-    marks::end(rt.alloc())?;
-    expect_added(first.is_ok(), &segments, &wanted)?;
-    segments.truncate(1);
-    add(&mut builder, &path, &mut segments)?;
-    expect_added(true, &segments, &wanted)
+    expect_built_again(rt.alloc(), &path, &wanted, &mut segments)
 }
