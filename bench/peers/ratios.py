@@ -2,14 +2,15 @@
 """Times outlines and strokes beside Clipper, Boost.Polygon and GEOS, prints a table of ratios, and draws them.
 
     bench/peers/ratios.py [PROGRAM] [--most N] [--rounds N] [--seconds S] [--limit SECONDS] > table.md
-    bench/peers/ratios.py [PROGRAM] --requests FOLDER > table.md
+    bench/peers/ratios.py [PROGRAM] --requests FOLDER [--peers clipper ...] > table.md
 
 PROGRAM is `mesh_bench`, which `rt run` makes in crates/mesh_bench. The libraries beside it are Debian's
 (libpolyclipping-dev, libboost-dev, libgeos-dev), driven by peers.cpp. Each answers the same drawing in one process,
 without reading and writing, in turn; the least processor time counts, up to 10,000 vertices that of all rounds. A ratio is
 our time over the better one of Clipper and Boost.Polygon, which are exact as ours is; GEOS computes in floating point and
 simplifies a drawing first, so its time stands beside. The picture is docs/peers.svg. With --requests the drawings are
-the files of a folder, as bench/real.py writes them, and no picture is drawn.
+the files of a folder, as bench/real.py writes them, and no picture is drawn. With --peers only these libraries answer;
+Boost takes seconds for each coast.
 """
 import argparse
 import json
@@ -130,7 +131,7 @@ def measure(words, driver, case):
     text = json.dumps(asked, separators=(",", ":")).encode()
     drawn = words_of(request, case.join)
     peers = {}
-    for peer in PEERS:
+    for peer in words.peers:
         answer = peer_answer(driver, peer, drawn, words.seconds, words.limit)
         if answer is not None:
             peers[peer] = answer[0]
@@ -221,6 +222,7 @@ def main():
     parser.add_argument("--seconds", type=seconds_above_zero, default=0.2, help="about how long each is repeated")
     parser.add_argument("--limit", type=seconds_above_zero, default=60, metavar="SECONDS", help="of one process")
     parser.add_argument("--requests", type=pathlib.Path, metavar="FOLDER", help="measure the requests in its files")
+    parser.add_argument("--peers", nargs="+", choices=PEERS, default=PEERS, help="the libraries beside ours")
     words = parser.parse_args()
     if words.requests:
         with tempfile.TemporaryDirectory() as folder:
