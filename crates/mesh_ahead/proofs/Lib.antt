@@ -1,4 +1,5 @@
 pub mod Alike
+pub mod Arranged
 pub mod Attempts
 pub mod ClearPaths
 pub mod ConvexLoops

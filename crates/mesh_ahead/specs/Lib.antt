@@ -1,3 +1,4 @@
 pub mod Ahead
+pub mod Arranged
 pub mod Counting
 pub mod Farthest

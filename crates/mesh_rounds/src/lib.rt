@@ -7,7 +7,7 @@
 //! loops, which private contracts alone read.
 #![tactic(auto)]
 
-mod curve;
+pub mod curve;
 mod groups;
 pub mod laws;
 mod pieces;
