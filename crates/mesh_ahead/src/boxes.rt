@@ -1,5 +1,6 @@
 //! Whether an attempt in arrays is worth making, as a few edges tell.
 
+use mesh_lattice::exact::are_boxes_apart;
 use mesh_lattice::lattice::LatticeEdge;
 use mesh_meeting::meeting::any_meeting;
 
@@ -23,14 +24,6 @@ struct Counts {
     meetings: usize,
 }
 
-fn are_apart(a: i32, b: i32, c: i32, d: i32) -> bool {
-    a.max(b) < c.min(d) || c.max(d) < a.min(b)
-}
-
-fn do_boxes_meet(e: LatticeEdge, f: LatticeEdge) -> bool {
-    !are_apart(e.0.0, e.1.0, f.0.0, f.1.0) && !are_apart(e.0.1, e.1.1, f.0.1, f.1.1)
-}
-
 /// How many boxes meet that of an edge, and how many edges meet it.
 fn count_conflicts(edges: &[LatticeEdge], e: LatticeEdge) -> Counts {
     let mut counts = Counts {
@@ -38,7 +31,7 @@ fn count_conflicts(edges: &[LatticeEdge], e: LatticeEdge) -> Counts {
         meetings: 0,
     };
     for f in edges {
-        if do_boxes_meet(e, *f) {
+        if !are_boxes_apart(e, *f) {
             counts.boxes = counts.boxes.saturating_add(1);
             if any_meeting(e, *f).is_some() {
                 counts.meetings = counts.meetings.saturating_add(1);

@@ -1,5 +1,5 @@
 -- Lemmas over edges and splits: a path that splits have made of an edge goes along it.
-use Rattle.std.proofs.Common.{◌≡◌, ◌⊎◌, inl, inr, ⊎_elim, ℕ, zero, suc, ◌+◌, ◌<◌, ◌≤◌, Bool, true, false, cond, List, [], ◌∷◌, length, add-one, refl, sym, subst, arith}
+use Rattle.std.proofs.Common.{◌≡◌, ◌⊎◌, inl, inr, ⊎_elim, ℕ, zero, suc, ◌+◌, ◌<◌, ◌≤◌, Bool, true, false, cond, List, [], ◌∷◌, add-one, refl, sym, subst, arith}
 use Rattle.std.specs.Prelude.{ℤ, ◌≤ℤ◌}
 use Rattle.std.proofs.lemmas.Int.{ints}
 use Rattle.mesh_plane.specs.Plane.{Point, Edge}
@@ -13,6 +13,7 @@ use Rattle.mesh_paths.specs.Paths.{given_to, ArePaths}
 use Rattle.mesh_paths.specs.Stops.{count_of, edges_along, pieces_of, point_of}
 use Rattle.mesh_paths.proofs.Cuts.{edge_proper}
 use Rattle.mesh_check.specs.Bent.{line_of, AreClearPaths, LeadingApartIsClear, PathsGoAlong}
+use Rattle.mesh_check.specs.Heights.{GoesAlong}
 use Rattle.mesh_check.proofs.LeadingApart.{lead_apart}
 
 -- not down, or not up
@@ -83,33 +84,28 @@ some_spread e proper =
 pub some_line : (p : Paths) (k : ℕ) → ArePaths p → k < count_of p.stops → 0 < spread (line_of p k)
 some_line p k paths within = some_spread (line_of p k) (edge_proper p k (omega (arith, within, paths.filed.count)) paths.proper)
 
-pub paths_along : PathsGoAlong
-paths_along p k units paths within bent = record {
-  proper = some_spread (line_of p k) (edge_proper p k inside paths.proper);
-  along = λ i j h l. record {
-    east = λ up. x true i j h l up;
-    west = λ down. x false i j h l down;
-    up = λ up. y true i j h l up;
-    down = λ down. y false i j h l down;
-  };
-  near = bent;
+-- so the way from a stop to a later one goes back nowhere
+pub goes_along : (p : Paths) (k i j : ℕ) → ArePaths p → k < count_of p.stops → i ≤ j → j ≤ pieces_of p.stops k → GoesAlong (line_of p k) (point_of p.stops k i) (point_of p.stops k j)
+goes_along p k i j paths within h l = record {
+  east = λ up. goes (λ q. q.0) true (λ e z box. box.by_x) up;
+  west = λ down. goes (λ q. q.0) false (λ e z box. box.by_x) down;
+  up = λ up. goes (λ q. q.1) true (λ e z box. box.by_y) up;
+  down = λ down. goes (λ q. q.1) false (λ e z box. box.by_y) down;
 }
   where
-    inside : k < length p.edges.items
-    inside = omega (arith, within, paths.filed.count)
-
     sound : Each IsSound p.splits
     sound = legal_sound (given_to p) p.splits paths.legal
 
-    goes : (c : Point → ℤ) (up : Bool) → IsBoxed c → (i j : ℕ) → i ≤ j → j ≤ pieces_of p.stops k → Goes c up (line_of p k) → GoesOn up (c (point_of p.stops k i)) (c (point_of p.stops k j))
-    goes c up boxed i j h l g =
+    goes : (c : Point → ℤ) (up : Bool) → IsBoxed c → Goes c up (line_of p k) → GoesOn up (c (point_of p.stops k i)) (c (point_of p.stops k j))
+    goes c up boxed g =
         stops_go c up (point_of p.stops k) (pieces_of p.stops k) i j (subst (Each (Goes c up)) (sym (paths.held k within)) (path_goes c up boxed p.splits sound (line_of p k) g)) h l
 
-    x : (up : Bool) (i j : ℕ) → i ≤ j → j ≤ pieces_of p.stops k → Goes (λ q. q.0) up (line_of p k) → GoesOn up (point_of p.stops k i).0 (point_of p.stops k j).0
-    x up i j h l g = goes (λ q. q.0) up (λ e z box. box.by_x) i j h l g
-
-    y : (up : Bool) (i j : ℕ) → i ≤ j → j ≤ pieces_of p.stops k → Goes (λ q. q.1) up (line_of p k) → GoesOn up (point_of p.stops k i).1 (point_of p.stops k j).1
-    y up i j h l g = goes (λ q. q.1) up (λ e z box. box.by_y) i j h l g
+pub paths_along : PathsGoAlong
+paths_along p k units paths within bent = record {
+  proper = some_spread (line_of p k) (edge_proper p k (omega (arith, within, paths.filed.count)) paths.proper);
+  along = λ i j h l. goes_along p k i j paths within h l;
+  near = bent;
+}
 
 -- the piece from a stop of a path to the next one
 abbrev pub piece_of : Paths → ℕ → ℕ → Edge

@@ -8,6 +8,7 @@ pub mod LeadingApart
 pub mod OwnClear
 pub mod Parted
 pub mod Sizes
+pub mod StretchBoxes
 pub mod Strips
 pub mod WholePaths
 pub mod ZonesAbout

@@ -6,7 +6,7 @@ use Rattle.mesh_pairs.specs.Pairs.{StayClear}
 use Rattle.mesh_paths.specs.declared.paths.Paths.{Paths}
 use Rattle.mesh_paths.specs.declared.paths.Piece.{Piece}
 use Rattle.mesh_paths.specs.Paths.{edge_of, ArePaths}
-use Rattle.mesh_paths.specs.Stops.{count_of, pieces_of}
+use Rattle.mesh_paths.specs.Stops.{count_of, pieces_of, point_of}
 use Rattle.mesh_check.specs.declared.comparing.Stretch.{Stretch}
 use Rattle.mesh_check.specs.Bent.{line_of, AreClearPaths, IsBentBy}
 use Rattle.mesh_check.specs.Heights.{units}
@@ -43,6 +43,10 @@ IsClearOfStretch p a s =
 -- all pieces of two stretches are clear of each other
 abbrev pub AreClearStretches : Paths → Stretch → Stretch → Type 0
 AreClearStretches p s t = (i : ℕ) → s.start ≤ i → i < s.end → IsClearOfStretch p (record { path = s.path; place = i }) t
+
+-- the stop with which a stretch starts and the one with which it ends
+abbrev pub ends_of_stretch : Paths → Stretch → Edge
+ends_of_stretch p s = (point_of p.stops s.path s.start, point_of p.stops s.path s.end)
 
 -- a stretch is one of a path
 pub record IsStretchOf (p : Paths) (s : Stretch) : Type 0 where

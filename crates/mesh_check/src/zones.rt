@@ -87,7 +87,7 @@ fn zone_about(paths: &Paths, at: Piece, line: LatticeEdge, units: u64) -> Option
 
 /// Whether two paths are clear of each other by their pieces near a stop of both, which stands at these places of them:
 /// up to where each lies so far beside the line of the other's edge that it cannot come back. No stop lies more than
-/// `first_units` and `second_units` beside the line of its own path's edge. At most `left` pairs of pieces are compared.
+/// `first_units` and `second_units` beside the line of its own path's edge. At most `left` comparisons are made.
 /// `false` also where that does not tell.
 #[cold]
 pub fn are_zones_clear(

@@ -104,7 +104,7 @@ fn are_ranges_apart(a: i32, b: i32, p: i32, r: i32) -> bool
 }
 
 /// Whether the boxes of two edges have no point in common.
-fn are_boxes_apart(e: LatticeEdge, f: LatticeEdge) -> bool
+pub fn are_boxes_apart(e: LatticeEdge, f: LatticeEdge) -> bool
     ensures { IsTrue result → (c : Point) → IsInBox e c → IsInBox f c → ⊥ }
 {
     if are_ranges_apart(e.0.0, e.1.0, f.0.0, f.1.0) {
