@@ -1,5 +1,5 @@
 -- Lemmas over lists: edges in another order stand for the same.
-use Rattle.std.proofs.Common.{◌≡◌, ◌||◌, Bool, ℕ, ◌+◌, ◌<◌, List, [], ◌∷◌, ◌++◌, length, map, take, get_or, refl, sym, ◌∙◌, ap, true}
+use Rattle.std.proofs.Common.{◌≡◌, ◌||◌, Bool, ℕ, ◌+◌, ◌<◌, List, [], ◌∷◌, ◌++◌, length, map, take, get_or, refl, sym, ◌∙◌, ap}
 use Rattle.std.specs.List.{list_any}
 use Rattle.std.specs.List.Sorted.{IsPermutation}
 use Rattle.std.proofs.lemmas.List.{map-append, take_more}
@@ -30,9 +30,3 @@ count_arranged es fs ks same count = record {
 
 pub cut_arranged : (es fs : List Edge) (c : CutEdges) → IsPermutation es fs → AreCut fs c → AreCut es c
 cut_arranged es fs c same cut = record { paths = cut.paths; count = count_arranged es fs _ same cut.count; small = cut.small; found = cut.found }
-
--- one more edge
-pub placed_more : (es : List Edge) (i : ℕ) (d : Edge) (n : ℕ) (ks : List (ℕ × Edge)) → i < length es → map (λ (k : ℕ × Edge). k.1) ks ≡ take i es
-    → map (λ (k : ℕ × Edge). k.1) (ks ++ (n, get_or es i d) ∷ []) ≡ take (i + 1) es
-placed_more es i d n ks low before =
-    map-append (λ (k : ℕ × Edge). k.1) ks ((n, get_or es i d) ∷ []) ∙ (ap (λ (l : List Edge). l ++ get_or es i d ∷ []) before ∙ sym (take_more es i d low))

@@ -1,9 +1,10 @@
 //! Pieces that meet still after each pair of edges was cut once: rounding moved them together.
 
-ghost use Rattle.std.specs.Prelude.{◌≡◌, ◌<◌, ◌≤◌, List, IfOk, IfSome, IsTrue, OnOk};
+ghost use Rattle.std.specs.Prelude.{◌≡◌, ◌<◌, false, List, IfOk, IsTrue, OnOk};
+ghost use Rattle.mesh_check.specs.Clear.{IsStretchOf};
 ghost use Rattle.mesh_plane.specs.Plane.{Edge};
 ghost use Rattle.mesh_pairs.specs.Pairs.{AreFound};
-ghost use Rattle.mesh_paths.specs.Paths.{ArePaths, IsPieceOf};
+ghost use Rattle.mesh_paths.specs.Paths.{ArePaths};
 ghost use Rattle.mesh_paths.specs.Stops.{count_of};
 ghost use Rattle.mesh_attempt.specs.Attempts.{AreCut};
 ghost use Rattle.mesh_clear.specs.AllClear.{AreAllClear};
@@ -11,8 +12,9 @@ ghost use Rattle.mesh_clear.specs.AllClear.{AreAllClear};
 use mesh_anew::ends::push_at_ends;
 use mesh_anew::neighbours::Neighbours;
 use mesh_attempt::attempt::CutEdges;
+use mesh_check::comparing::{Stretch, compare, whole};
 use mesh_clear::check::{NO_PROGRESS, Progress, are_all_clear};
-use mesh_clear::doubts::doubtful_pairs;
+use mesh_clear::doubts::{Seen, doubtful_pairs, doubtful_pairs_since};
 use mesh_meeting::meeting::any_meeting;
 use mesh_pairs::pairs::Pairs;
 use mesh_paths::paths::{Paths, Piece};
@@ -22,96 +24,149 @@ use std::alloc::{AllocError, Global};
 /// that seldom come to an end.
 const PATHS_A_DOUBT: usize = 16;
 
-/// Of pieces that lines do not part so many pairs are compared for each piece, before an attempt is given up. Twice as many
-/// would serve some hatches, and cost others as much again before the rounds.
+/// For each piece so many comparisons are made, of pieces or of parts of paths that lines do not part, before an attempt is
+/// given up. Twice as many would make attempts that come to nothing take longer.
 const COMPARISONS: usize = 16;
 
-/// Pieces that meet still are cut where they meet so often. What meets then seldom comes to an end this way.
+/// Pieces that meet still are cut where they meet so often. What meets then seldom comes to an end this way, so twice as
+/// many would be of little use.
 const TURNS: usize = 6;
+
+/// So few pairs in doubt are mended again, even where that does not halve them. With twice as many, more paths that move each
+/// other in turns would be bent too far.
+const FEW: usize = 8;
+
+/// All pairs are checked so often, at most, after pieces were cut and none that came near was found in doubt. The first check
+/// mostly does.
+const CHECKS: usize = 3;
 
 /// At so many pairs a path is cut each time. One that is cut at more is often one of three that move each other in turns.
 const MOST_TIMES: u8 = 8;
 
-/// The first piece of a path that meets a piece, by so many comparisons as are left.
-fn meeting_with(paths: &Paths, p: Piece, second: u32, left: &mut usize) -> Option<Piece>
-    requires paths { ArePaths paths.now }
-    requires first { IsPieceOf paths.now p }
-    requires second { second < count_of paths.now.stops }
-    ensures pieces { IfSome result (IsPieceOf paths.now) }
-    ensures fewer { left.new ≤ left.old }
-    ensures spent { IfSome result (λ _. left.new < left.old) }
-{
-    let (a, b) = paths.ends(p);
-    for place in 0..paths.stops.pieces(second as usize) {
-        if *left == 0 {
-            return None;
-        }
-        *left -= 1;
-        let q = Piece {
-            path: second,
-            place,
-        };
-        let (c, d) = paths.ends(q);
-        if any_meeting((a.at, b.at), (c.at, d.at)).is_some() {
-            return Some(q);
-        }
-    }
-    None
-}
-
-/// A piece of each of two paths that meet, by so many comparisons as are left.
-fn meeting_pieces(
-    paths: &Paths,
+/// What is to be compared: the pieces of a path next to a point at which it was cut, and another path.
+#[derive(Copy, Clone)]
+struct Look {
     first: u32,
     second: u32,
-    left: &mut usize,
-) -> Option<(Piece, Piece)>
-    requires paths { ArePaths paths.now }
-    requires first { first < count_of paths.now.stops }
-    requires second { second < count_of paths.now.stops }
-    ensures pieces { IfSome result (λ m. IsPieceOf paths.now m.0 × IsPieceOf paths.now m.1) }
-    ensures fewer { left.new ≤ left.old }
-    ensures spent { IfSome result (λ _. left.new < left.old) }
-{
-    for place in 0..paths.stops.pieces(first as usize) {
-        let p = Piece { path: first, place };
-        if let Some(q) = meeting_with(paths, p, second, left) {
-            return Some((p, q));
-        }
-    }
-    None
+    at: u32,
 }
 
-/// Cuts two paths where their pieces meet, by so many comparisons as are left.
-fn mend_pair(paths: &mut Paths, first: u32, second: u32, left: &mut usize) -> Result<(), AllocError>
-    requires paths { ArePaths paths.old }
-    requires first { first < count_of paths.old.stops }
-    requires second { second < count_of paths.old.stops }
-    ensures paths { OnOk result (ArePaths paths.new) }
-    ensures edges { OnOk result (paths.new.edges ≡ paths.old.edges) }
+/// The point of paths of which all pieces are compared.
+const ANYWHERE: u32 = u32::MAX;
+
+/// The pieces of a path next to the point of a number, or all of them where it has no stop there.
+fn pieces_at(paths: &Paths, path: u32, at: u32) -> Stretch
+    requires paths { ArePaths paths.now }
+    requires path { path < count_of paths.now.stops }
+    ensures { IsStretchOf paths.now result }
 {
-    while let Some((p, q)) = meeting_pieces(paths, first, second, left) {
-        paths.cut_pieces(p, q)?;
+    let pieces = paths.stops.pieces(path as usize);
+    if at != ANYWHERE {
+        for place in 0..pieces {
+            if paths.stops.stop(path as usize, place).id == at {
+                return Stretch {
+                    path,
+                    start: place.saturating_sub(1),
+                    end: place + 1,
+                };
+            }
+        }
+    }
+    whole(paths, path)
+}
+
+/// Adds the path of a piece, and the point at which it was cut, if it was: the path has more pieces than before.
+fn push_cut(
+    paths: &Paths,
+    piece: Piece,
+    before: usize,
+    cuts: &mut Vec<(u32, u32)>,
+) -> Result<(), AllocError>
+    requires paths { ArePaths paths.now }
+    requires path { piece.path < count_of paths.now.stops }
+{
+    let pieces = paths.stops.pieces(piece.path as usize);
+    if pieces > before && piece.place < pieces {
+        let stop = paths.stops.stop(piece.path as usize, piece.place + 1);
+        cuts.push((piece.path, stop.id))?;
     }
     Ok(())
 }
 
-/// Cuts the paths of a pair where their pieces meet, unless one of them was cut so at too many pairs. Adds the pairs of
-/// both to a list if they were cut.
+/// Cuts two paths where their pieces meet, by so many comparisons as are left. Adds what was cut to a list.
+fn mend_pair(
+    paths: &mut Paths,
+    look: Look,
+    cuts: &mut Vec<(u32, u32)>,
+    left: &mut usize,
+) -> Result<(), AllocError>
+    requires paths { ArePaths paths.old }
+    requires first { look.first < count_of paths.old.stops }
+    requires second { look.second < count_of paths.old.stops }
+    ensures paths { OnOk result (ArePaths paths.new) }
+    ensures edges { OnOk result (paths.new.edges ≡ paths.old.edges) }
+{
+    while let Err(Some((p, q))) = compare(
+        paths,
+        pieces_at(paths, look.first, look.at),
+        whole(paths, look.second),
+        left,
+    ) {
+        let first = paths.stops.pieces(p.path as usize);
+        let second = paths.stops.pieces(q.path as usize);
+        paths.cut_pieces(p, q)?;
+        push_cut(paths, p, first, cuts)?;
+        push_cut(paths, q, second, cuts)?;
+    }
+    Ok(())
+}
+
+/// Adds what is to be compared after a path was cut at a point: its pieces there, with all paths that come near it.
+fn push_looks(
+    alloc: Global,
+    paths: &Paths,
+    neighbours: &Neighbours,
+    cut: (u32, u32),
+    list: &mut Vec<Look>,
+) -> Result<(), AllocError>
+    requires { ArePaths paths.now }
+{
+    let (first, at) = cut;
+    for second in neighbours.of(first) {
+        list.push(Look {
+            first,
+            second: *second,
+            at,
+        })?;
+    }
+    let mut ends = Vec::new(alloc);
+    push_at_ends(paths, first, &mut ends)?;
+    for pair in &ends {
+        list.push(Look {
+            first,
+            second: pair.1,
+            at,
+        })?;
+    }
+    Ok(())
+}
+
+/// Cuts two paths where their pieces meet, unless one of them was cut so too often. Adds what is to be compared then.
 fn mend_next(
+    alloc: Global,
     paths: &mut Paths,
     neighbours: &Neighbours,
     times: &mut Vec<u8>,
-    list: &mut Vec<(u32, u32)>,
-    pair: (u32, u32),
+    list: &mut Vec<Look>,
+    look: Look,
     left: &mut usize,
 ) -> Result<(), AllocError>
     requires paths { ArePaths paths.old }
     ensures paths { OnOk result (ArePaths paths.new) }
     ensures edges { OnOk result (paths.new.edges ≡ paths.old.edges) }
 {
-    let first = pair.0 as usize;
-    let second = pair.1 as usize;
+    let first = look.first as usize;
+    let second = look.second as usize;
     if first >= paths.edges.len() || second >= paths.edges.len() {
         return Ok(());
     }
@@ -121,15 +176,14 @@ fn mend_next(
     if times[first] >= MOST_TIMES || times[second] >= MOST_TIMES {
         return Ok(());
     }
-    let made = paths.splits.made().len();
-    mend_pair(paths, pair.0, pair.1, left)?;
-    if paths.splits.made().len() > made {
+    let mut cuts = Vec::new(alloc);
+    mend_pair(paths, look, &mut cuts, left)?;
+    if cuts.len() > 0 {
         times[first] = times[first].saturating_add(1);
         times[second] = times[second].saturating_add(1);
-        neighbours.push_pairs(pair.0, list)?;
-        neighbours.push_pairs(pair.1, list)?;
-        push_at_ends(paths, pair.0, list)?;
-        push_at_ends(paths, pair.1, list)?;
+    }
+    for cut in &cuts {
+        push_looks(alloc, paths, neighbours, *cut, list)?;
     }
     Ok(())
 }
@@ -151,15 +205,27 @@ fn mend(
     let mut times = vec![in alloc; 0u8; paths.edges.len()]?;
     let mut list = Vec::new(alloc);
     for pair in doubts {
-        list.push(*pair)?;
+        list.push(Look {
+            first: pair.0,
+            second: pair.1,
+            at: ANYWHERE,
+        })?;
     }
     let mut left = most;
     for next in 0..usize::MAX {
         if next >= list.len() || left == 0 {
             break;
         }
-        let pair = list[next];
-        mend_next(paths, &neighbours, &mut times, &mut list, pair, &mut left)?;
+        let look = list[next];
+        mend_next(
+            alloc,
+            paths,
+            &neighbours,
+            &mut times,
+            &mut list,
+            look,
+            &mut left,
+        )?;
     }
     Ok(())
 }
@@ -171,6 +237,16 @@ pub struct Verdict {
     /// Empty where a path is bent too far. Nothing where too many pairs are in doubt, or none was found: cutting would
     /// seldom come to an end.
     pub doubts: Option<Vec<(u32, u32)>>,
+}
+
+/// That these pairs are in doubt.
+fn in_doubt(doubts: Vec<(u32, u32)>) -> Verdict
+    ensures { result.clear ≡ false }
+{
+    Verdict {
+        clear: false,
+        doubts: Some(doubts),
+    }
 }
 
 /// How many comparisons of pieces are made, at most.
@@ -221,7 +297,40 @@ fn check(alloc: Global, cut: &CutEdges) -> Result<Verdict, AllocError>
     })
 }
 
-/// The same, once pieces that meet still were cut where they meet, as long as that halves the pairs in doubt.
+/// Cuts paths where pieces of these pairs meet, in turns, as long as that halves the pairs that are found to be in doubt,
+/// or few are left. Answers which are left: nothing where a path is bent too far.
+fn mend_in_turns(
+    alloc: Global,
+    cut: &mut CutEdges,
+    doubts: Vec<(u32, u32)>,
+) -> Result<Option<Vec<(u32, u32)>>, AllocError>
+    requires paths { ArePaths cut.old.paths }
+    requires found { AreFound cut.old.paths.edges.items cut.old.pairs }
+    ensures cut { OnOk result ((given : List Edge) → AreCut given cut.old → AreCut given cut.new) }
+    ensures paths { OnOk result (ArePaths cut.new.paths) }
+    ensures found { OnOk result (AreFound cut.new.paths.edges.items cut.new.pairs) }
+{
+    let mut doubts = doubts;
+    let mut few = usize::MAX;
+    for _ in 0..TURNS {
+        if doubts.len() == 0 || doubts.len() > few {
+            break;
+        }
+        few = (doubts.len() / 2).max(FEW);
+        let most = most_comparisons(&cut.paths);
+        let most_doubts = cut.paths.edges.len() / PATHS_A_DOUBT;
+        let seen = Seen::all(alloc, &cut.paths)?;
+        mend(alloc, &mut cut.paths, &cut.pairs, &doubts, most)?;
+        let found = doubtful_pairs_since(alloc, &cut.paths, &cut.pairs, &seen, most, most_doubts)?;
+        let Some(left) = found else {
+            return Ok(None);
+        };
+        doubts = left;
+    }
+    Ok(Some(doubts))
+}
+
+/// The same, once pieces that meet still were cut where they meet.
 pub fn mended(alloc: Global, cut: &mut CutEdges) -> Result<Verdict, AllocError>
     requires paths { ArePaths cut.old.paths }
     requires found { AreFound cut.old.paths.edges.items cut.old.pairs }
@@ -229,17 +338,19 @@ pub fn mended(alloc: Global, cut: &mut CutEdges) -> Result<Verdict, AllocError>
     ensures clear { IfOk result (λ v. IsTrue v.clear → AreAllClear cut.new.paths) }
 {
     let mut verdict = check(alloc, cut)?;
-    let mut few = usize::MAX;
-    for _ in 0..TURNS {
-        let Some(doubts) = &verdict.doubts else {
+    for _ in 0..CHECKS {
+        let Some(doubts) = verdict.doubts.take() else {
             break;
         };
-        if doubts.len() == 0 || doubts.len() > few {
-            break;
+        if doubts.len() == 0 {
+            return Ok(in_doubt(doubts));
         }
-        few = doubts.len() / 2;
-        let most = most_comparisons(&cut.paths);
-        mend(alloc, &mut cut.paths, &cut.pairs, doubts, most)?;
+        let Some(left) = mend_in_turns(alloc, cut, doubts)? else {
+            return Ok(in_doubt(Vec::new(alloc)));
+        };
+        if left.len() > 0 {
+            return Ok(in_doubt(left));
+        }
         verdict = check(alloc, cut)?;
     }
     Ok(verdict)

@@ -160,7 +160,7 @@ impl Marks {
     }
 }
 
-/// How many units the stops of a path lie beside the line of its edge at most, rounded down.
+/// How many units the stops of a path lie beside the line of its edge at most, rounded up.
 fn bend(paths: &Paths, path: u32) -> u64
     requires paths { ArePaths paths.now }
     requires within { path < count_of paths.now.stops }
@@ -177,5 +177,6 @@ fn bend(paths: &Paths, path: u32) -> u64
         let at = paths.stops.stop(path as usize, place).at;
         most = most.max(cross(along, minus(at, start)).unsigned_abs());
     }
-    u64::try_from(most / spread.max(1)).unwrap_or(u64::MAX)
+    let spread = u128::from(spread).max(1);
+    u64::try_from(most.saturating_add(spread - 1) / spread).unwrap_or(u64::MAX)
 }

@@ -68,19 +68,17 @@ impl Neighbours {
         }
     }
 
-    /// Adds the pairs of an edge and each of its neighbours.
-    pub fn push_pairs(&self, edge: u32, pairs: &mut Vec<(u32, u32)>) -> Result<(), AllocError> {
-        let edge_place = edge as usize;
-        if edge_place >= self.starts.len() {
-            return Ok(());
+    /// The neighbours of an edge.
+    pub fn of(&self, edge: u32) -> &[u32] {
+        let place = edge as usize;
+        if place >= self.starts.len() {
+            return &[];
         }
         let mut end = self.list.len();
-        if edge_place + 1 < self.starts.len() {
-            end = end.min(self.starts[edge_place + 1] as usize);
+        if place + 1 < self.starts.len() {
+            end = end.min(self.starts[place + 1] as usize);
         }
-        for place in self.starts[edge_place] as usize..end {
-            pairs.push((edge, self.list[place]))?;
-        }
-        Ok(())
+        let start = (self.starts[place] as usize).min(end);
+        &self.list[start..end]
     }
 }

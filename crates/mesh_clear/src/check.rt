@@ -32,7 +32,7 @@ pub struct Progress {
 pub const NO_PROGRESS: Progress = Progress { met: 0, next: 0 };
 
 /// Whether the paths of two edges that met are clear of each other.
-fn is_meeting_clear(paths: &Paths, bends: &[u64], m: Meeting, left: &mut usize) -> bool
+pub fn is_meeting_clear(paths: &Paths, bends: &[u64], m: Meeting, left: &mut usize) -> bool
     requires bends { AreBends paths.now bends.now }
     requires meeting { IsMeeting paths.now.edges.items m }
     ensures { IsTrue result → IsClearMeeting paths.now m }

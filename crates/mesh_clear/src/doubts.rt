@@ -8,13 +8,91 @@ ghost use Rattle.mesh_paths.specs.Stops.{count_of, pieces_of};
 ghost use Rattle.mesh_clear.specs.Private.Looking.{AreBends};
 
 use crate::bends::bends_of;
-use crate::check::{Progress, is_next_clear, is_pair_clear};
+use crate::check::{Progress, is_meeting_clear, is_next_clear, is_pair_clear};
 use crate::ends::is_clear_at_end;
 use crate::fit::are_fit;
 use crate::visits::{Visits, visits_of};
 use mesh_pairs::pairs::{Meeting, Pairs};
 use mesh_paths::paths::{Paths, Piece};
 use std::alloc::{AllocError, Global};
+
+/// How many pieces each path had when all pairs were looked at. What is not listed is taken for changed.
+#[derive(Drop)]
+pub struct Seen {
+    pieces: Vec<u32>,
+}
+
+impl Seen {
+    /// No path was seen.
+    pub fn none(alloc: Global) -> Seen {
+        Seen {
+            pieces: Vec::new(alloc),
+        }
+    }
+
+    /// All paths, as they are.
+    pub fn all(alloc: Global, paths: &Paths) -> Result<Seen, AllocError>
+        requires { ArePaths paths.now }
+    {
+        let mut pieces = Vec::with_capacity(alloc, paths.edges.len())?;
+        for path in 0..paths.edges.len() {
+            pieces.push(pieces_in(paths, path))?;
+        }
+        Ok(Seen { pieces })
+    }
+
+    /// Whether a path was cut since.
+    fn is_changed(&self, paths: &Paths, path: u32) -> bool
+        requires paths { ArePaths paths.now }
+        requires path { path < count_of paths.now.stops }
+    {
+        let place = path as usize;
+        place >= self.pieces.len() || self.pieces[place] != pieces_in(paths, place)
+    }
+
+    /// Whether one of two paths was cut since.
+    fn is_either_changed(&self, paths: &Paths, pair: (u32, u32)) -> bool
+        requires paths { ArePaths paths.now }
+        requires first { pair.0 < count_of paths.now.stops }
+        requires second { pair.1 < count_of paths.now.stops }
+    {
+        self.is_changed(paths, pair.0) || self.is_changed(paths, pair.1)
+    }
+}
+
+/// How many pieces a path has.
+fn pieces_in(paths: &Paths, path: usize) -> u32
+    requires paths { ArePaths paths.now }
+    requires path { path < count_of paths.now.stops }
+{
+    paths.stops.pieces(path).min(u32::MAX as usize) as u32
+}
+
+/// Adds the pairs that met of which a path was cut since, and that are not known to be clear.
+fn push_changed_meetings(
+    paths: &Paths,
+    bends: &[u64],
+    meetings: &[Meeting],
+    seen: &Seen,
+    left: &mut usize,
+    doubts: &mut Vec<(u32, u32)>,
+    most_doubts: usize,
+) -> Result<(), AllocError>
+    requires bends { AreBends paths.now bends.now }
+    requires meetings { All (IsMeeting paths.now.edges.items) meetings.now }
+{
+    for m in meetings {
+        if doubts.len() > most_doubts {
+            return Ok(());
+        }
+        if seen.is_either_changed(paths, (m.first, m.second))
+            && !is_meeting_clear(paths, bends, *m, left)
+        {
+            doubts.push((m.first, m.second))?;
+        }
+    }
+    Ok(())
+}
 
 /// Adds the pairs from a place on that met and are not known to be clear.
 fn push_meetings(
@@ -42,11 +120,12 @@ fn push_meetings(
     Ok(())
 }
 
-/// Adds the close pairs that are not known to be clear.
+/// Adds the close pairs of which a path was cut since, and that are not known to be clear.
 fn push_close(
     paths: &Paths,
     bends: &[u64],
     close: &[(u32, u32)],
+    seen: &Seen,
     left: &mut usize,
     doubts: &mut Vec<(u32, u32)>,
     most_doubts: usize,
@@ -58,19 +137,20 @@ fn push_close(
         if doubts.len() > most_doubts {
             return Ok(());
         }
-        if !is_pair_clear(paths, bends, *pair, left) {
+        if seen.is_either_changed(paths, *pair) && !is_pair_clear(paths, bends, *pair, left) {
             doubts.push(*pair)?;
         }
     }
     Ok(())
 }
 
-/// Adds the pairs of a path that has a stop at this place and of each later one that ends there, one of which was cut, that
-/// are not known to be clear.
+/// Adds the pairs of a path that has a stop at this place and of each later one that ends there, one of which was cut since,
+/// that are not known to be clear.
 fn push_at(
     paths: &Paths,
     bends: &[u64],
     end: Piece,
+    seen: &Seen,
     left: &mut usize,
     doubts: &mut Vec<(u32, u32)>,
 ) -> Result<(), AllocError>
@@ -82,7 +162,9 @@ fn push_at(
     let mut rest = paths.through.last(id);
     while rest > 0 {
         let pass = paths.through.pass(rest - 1);
-        if !is_clear_at_end(paths, bends, end, id, pass.path, left) {
+        if seen.is_either_changed(paths, (end.path, pass.path))
+            && !is_clear_at_end(paths, bends, end, id, pass.path, left)
+        {
             doubts.push((end.path, pass.path))?;
         }
         rest = pass.before;
@@ -90,10 +172,11 @@ fn push_at(
     Ok(())
 }
 
-/// Adds the pairs that share an end and are not known to be clear.
+/// Adds the pairs that share an end, of which a path was cut since, and that are not known to be clear.
 fn push_ends(
     paths: &Paths,
     bends: &[u64],
+    seen: &Seen,
     left: &mut usize,
     doubts: &mut Vec<(u32, u32)>,
     most_doubts: usize,
@@ -105,9 +188,9 @@ fn push_ends(
             return Ok(());
         }
         let path = path as u32;
-        push_at(paths, bends, Piece { path, place: 0 }, left, doubts)?;
+        push_at(paths, bends, Piece { path, place: 0 }, seen, left, doubts)?;
         let place = paths.stops.pieces(path as usize);
-        push_at(paths, bends, Piece { path, place }, left, doubts)?;
+        push_at(paths, bends, Piece { path, place }, seen, left, doubts)?;
     }
     Ok(())
 }
@@ -147,14 +230,58 @@ pub fn doubtful_pairs(
         &mut doubts,
         most_doubts,
     )?;
+    let seen = Seen::none(alloc);
     push_close(
         paths,
         &bends,
         &pairs.close,
+        &seen,
         &mut left,
         &mut doubts,
         most_doubts,
     )?;
-    push_ends(paths, &bends, &mut left, &mut doubts, most_doubts)?;
+    push_ends(paths, &bends, &seen, &mut left, &mut doubts, most_doubts)?;
+    Ok(Some(doubts))
+}
+
+/// Those of them of which a path was cut since all were seen.
+pub fn doubtful_pairs_since(
+    alloc: Global,
+    paths: &Paths,
+    pairs: &Pairs,
+    seen: &Seen,
+    most: usize,
+    most_doubts: usize,
+) -> Result<Option<Vec<(u32, u32)>>, AllocError>
+    requires paths { ArePaths paths.now }
+    requires found { AreFound paths.now.edges.items pairs.now }
+{
+    if !are_fit(paths) {
+        return Ok(None);
+    }
+    let Some(bends) = bends_of(alloc, paths)? else {
+        return Ok(None);
+    };
+    let mut left = most;
+    let mut doubts = Vec::new(alloc);
+    push_changed_meetings(
+        paths,
+        &bends,
+        &pairs.meetings,
+        seen,
+        &mut left,
+        &mut doubts,
+        most_doubts,
+    )?;
+    push_close(
+        paths,
+        &bends,
+        &pairs.close,
+        seen,
+        &mut left,
+        &mut doubts,
+        most_doubts,
+    )?;
+    push_ends(paths, &bends, seen, &mut left, &mut doubts, most_doubts)?;
     Ok(Some(doubts))
 }

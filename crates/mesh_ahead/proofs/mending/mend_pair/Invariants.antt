@@ -7,8 +7,8 @@ abbrev pub invariant-loop-p : goal.invariant-loop-p
 invariant-loop-p l = record {
   paths : ArePaths l.paths;
   edges : l.paths.edges ≡ l.initial.paths.edges;
-  first : l.first < count_of l.paths.stops;
-  second : l.second < count_of l.paths.stops;
+  first : l.look.first < count_of l.paths.stops;
+  second : l.look.second < count_of l.paths.stops;
 }
 
 abbrev pub decreases-loop-p : goal.decreases-loop-p
