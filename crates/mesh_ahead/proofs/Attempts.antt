@@ -17,5 +17,5 @@ splits_many made = length-map (reverse made) _ ∙ length-reverse made
 pub made_fewer : (m n : ℕ) → m ≤ n → (given : List Edge) (old new : SplitCount) (ks : List Counted) (k : ℕ) → IsMadeAmong m given old new ks k → IsMadeAmong n given old new ks k
 made_fewer m n less given old new ks k h = record { told = h.told; counted = with_fewer m n less given old new h.told.splitting.splits h.counted }
 
-pub made_after : (given : List Edge) (old now new : SplitCount) (ks : List Counted) (k : ℕ) → CountsAtMost 4 given old now → IsCountedSplitting given now new ks k → IsMadeAmong 55 given old new ks k
-made_after given old now new ks k first h = record { told = h.told; counted = counts_with 4 51 given old now new h.told.splitting.splits first h.counted }
+pub made_after : (given : List Edge) (old now new : SplitCount) (ks : List Counted) (k : ℕ) → CountsAtMost 4 given old now → IsCountedSplitting given now new ks k → IsMadeAmong 51 given old new ks k
+made_after given old now new ks k first h = record { told = h.told; counted = counts_with 4 47 given old now new h.told.splitting.splits first h.counted }

@@ -14,9 +14,9 @@ most_anew = 3
 abbrev pub attempts_in_arrays : ℕ
 attempts_in_arrays = 4
 
--- so many are made to split edges, at most: these, and 51 where arrays do not serve
+-- so many are made to split edges, at most: these, and 47 where arrays do not serve
 abbrev pub most_attempts : ℕ
-most_attempts = 55
+most_attempts = 51
 
 -- the splits of all attempts to split some edges were counted on
 abbrev pub CountsSplits : List Edge → SplitCount → SplitCount → Type 0

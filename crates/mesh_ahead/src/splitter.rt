@@ -199,7 +199,7 @@ pub fn split_edges(alloc: Global, edges: &[LatticeEdge]) -> Result<Vec<CountedSe
 }
 
 /// The same, and tells how near the splits lie to the edges. The splits are counted on, those of attempts that were
-/// given up too, whatever comes of it; there are at most 55 attempts. It fails where memory is refused, and where the
+/// given up too, whatever comes of it; there are at most 51 attempts. It fails where memory is refused, and where the
 /// splits pass the limit of the count, if it has one.
 pub fn split_edges_told(
     alloc: Global,

@@ -47,7 +47,7 @@ pub fn split_edges(alloc: Global, edges: &[LatticeEdge]) -> Result<Vec<CountedSe
 }
 
 /// The same, and tells how near the splits lie to the edges. The splits are counted on, those of attempts that were
-/// given up too, whatever comes of it; there are at most 51 attempts. It fails where memory is refused, and where the
+/// given up too, whatever comes of it; there are at most 47 attempts. It fails where memory is refused, and where the
 /// splits pass the limit of the count, if it has one.
 pub fn split_edges_told(
     alloc: Global,
@@ -99,8 +99,8 @@ fn settled_one_by_one(
 ) -> Result<Settled, SplitError>
     requires { IsProper edges.now }
     ensures settled { IfOk result (λ s. IsSettled edges.now s.log s.segments.items) }
-    ensures counted { CountsAtMost 49 edges.now count.old count.new }
-    ensures standing { IfOk result (λ s. CountsAmong 49 edges.now count.old count.new s.log) }
+    ensures counted { CountsAtMost 45 edges.now count.old count.new }
+    ensures standing { IfOk result (λ s. CountsAmong 45 edges.now count.old count.new s.log) }
     ensures within { OnOk result (IsWithinLimit count.new) }
     ensures refused { IfErr result (λ e. IsReason e count.new) }
 {

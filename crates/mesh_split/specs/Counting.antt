@@ -24,9 +24,9 @@ pub record CountsAmong (most : ℕ) (given : List Edge) (old new : SplitCount) (
   pub listed : Contains counts.attempts splits
 
 -- so many attempts are made to split edges, at most: two in rounds, one where splits are made one by one, and each of the
--- twelve times that these are begun anew three at some of the edges alone and one more at all
+-- eleven times that these are begun anew three at some of the edges alone and one more at all
 abbrev pub most_attempts : ℕ
-most_attempts = 51
+most_attempts = 47
 
 -- the splits of all attempts to split some edges were counted on
 abbrev pub CountsSplits : List Edge → SplitCount → SplitCount → Type 0

@@ -246,8 +246,8 @@ pub fn first_pass(
     requires { IsProper edges.now }
     ensures pile { IfOk result (λ s. IsPile edges.now s.log s.todo s.live) }
     ensures clear { IfOk result (λ s. AllClear s.live) }
-    ensures counted { CountsAtMost 49 edges.now count.old count.new }
-    ensures kept { OnOk result (CountsAtMost 48 edges.now count.old count.new) }
+    ensures counted { CountsAtMost 45 edges.now count.old count.new }
+    ensures kept { OnOk result (CountsAtMost 44 edges.now count.old count.new) }
     ensures refused { IfErr result (λ e. IsReason e count.new) }
 {
     let mut leash = Leash::new(alloc);

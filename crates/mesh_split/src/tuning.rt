@@ -39,7 +39,7 @@ pub(crate) const MOST_SPLITS_ANEW: usize = 1_200_000;
 
 /// How often all is begun anew, at most. Twice as often costs the hardest drawings twice as much; `most_attempts`
 /// follows from it.
-pub(crate) const DRAWS: usize = 12;
+pub(crate) const DRAWS: usize = 11;
 
 /// How often the noted edges are split by themselves, at most, before all are. `most_attempts` follows from it too.
 pub(crate) const REHEARSALS: usize = 3;

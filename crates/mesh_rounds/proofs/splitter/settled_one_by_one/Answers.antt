@@ -31,7 +31,7 @@ loop-s-preserved c =
     let s = c.loop-s.splitter in
     let t = c.settle.new.self in
     record {
-      counted = subst (λ (n : SplitCount). CountsAtMost 48 c.args.edges.now c.args.count.now n) (sym c.in_ok-check.ensures.same) c.loop-s.invariant.counted;
+      counted = subst (λ (n : SplitCount). CountsAtMost 44 c.args.edges.now c.args.count.now n) (sym c.in_ok-check.ensures.same) c.loop-s.invariant.counted;
       pile = pile_settled c.args.edges.now s.log t.log s.todo c.pop.new.self s.live t.todo t.live c.in-Some.s c.in-Some.ensures.taken c.in_ok-settle.ensures c.loop-s.invariant.pile;
       clear = c.in_ok-settle.ensures.clear c.loop-s.invariant.clear;
     }
@@ -41,22 +41,22 @@ returns-in_err-check-clause-counted c =
     let s = c.loop-s.splitter in
     let t = c.settle.new.self in
     let pile = pile_settled c.args.edges.now s.log t.log s.todo c.pop.new.self s.live t.todo t.live c.in-Some.s c.in-Some.ensures.taken c.in_ok-settle.ensures c.loop-s.invariant.pile in
-    counts_both 48 1 c.args.edges.now c.args.count.now c.loop-s.count c.check.new.self c.loop-s.invariant.counted
+    counts_both 44 1 c.args.edges.now c.args.count.now c.loop-s.count c.check.new.self c.loop-s.invariant.counted
     (c.in_err-check.ensures.counted c.args.edges.now pile.reached.legal)
 
 pub returns-in_err-add-clause-counted : goal.returns-in_err-add-clause-counted
 returns-in_err-add-clause-counted c =
-    counts_both 48 1 c.args.edges.now c.args.count.now c.loop-s.count c.add.new.self c.loop-s.invariant.counted
+    counts_both 44 1 c.args.edges.now c.args.count.now c.loop-s.count c.add.new.self c.loop-s.invariant.counted
     (c.add.ensures.counted c.args.edges.now c.loop-s.invariant.pile.reached.legal).counts
 
 pub returns-in_err-segments-clause-counted : goal.returns-in_err-segments-clause-counted
 returns-in_err-segments-clause-counted c =
-    counts_both 48 1 c.args.edges.now c.args.count.now c.loop-s.count c.add.new.self c.loop-s.invariant.counted
+    counts_both 44 1 c.args.edges.now c.args.count.now c.loop-s.count c.add.new.self c.loop-s.invariant.counted
     (c.add.ensures.counted c.args.edges.now c.loop-s.invariant.pile.reached.legal).counts
 
 pub returns-clause-counted : goal.returns-clause-counted
 returns-clause-counted c =
-    counts_both 48 1 c.args.edges.now c.args.count.now c.loop-s.count c.add.new.self c.loop-s.invariant.counted
+    counts_both 44 1 c.args.edges.now c.args.count.now c.loop-s.count c.add.new.self c.loop-s.invariant.counted
     (c.add.ensures.counted c.args.edges.now c.loop-s.invariant.pile.reached.legal).counts
 
 pub returns-clause-settled : goal.returns-clause-settled
@@ -70,5 +70,5 @@ returns-clause-settled c =
 
 pub returns-clause-standing : goal.returns-clause-standing
 returns-clause-standing c =
-    counts_with 48 1 c.args.edges.now c.args.count.now c.loop-s.count c.add.new.self c.loop-s.splitter.log c.loop-s.invariant.counted
+    counts_with 44 1 c.args.edges.now c.args.count.now c.loop-s.count c.add.new.self c.loop-s.splitter.log c.loop-s.invariant.counted
     (c.add.ensures.counted c.args.edges.now c.loop-s.invariant.pile.reached.legal)

@@ -5,7 +5,7 @@ use Rattle.mesh_rounds.proofs.splitter.settled_one_by_one.Given as goal
 
 abbrev pub invariant-loop-s : goal.invariant-loop-s
 invariant-loop-s l = record {
-  counted : CountsAtMost 48 l.fn.edges l.fn.count l.count;
+  counted : CountsAtMost 44 l.fn.edges l.fn.count l.count;
   pile : IsPile l.fn.edges l.splitter.log l.splitter.todo l.splitter.live;
   clear : AllClear l.splitter.live;
 }

@@ -6,7 +6,7 @@ use Rattle.mesh_split.proofs.first_pass.first_pass.Goals as goal
 
 pub returns-in_err-splitter-clause-counted : goal.returns-in_err-splitter-clause-counted
 returns-in_err-splitter-clause-counted c =
-    counts_fewer 1 49 (omega arith) c.args.edges.now c.args.count.now c.attempt.new.count c.attempt.ensures.counted
+    counts_fewer 1 45 (omega arith) c.args.edges.now c.args.count.now c.attempt.new.count c.attempt.ensures.counted
 
 pub loop-draw-init : goal.loop-draw-init
 loop-draw-init c =
@@ -34,28 +34,28 @@ pub returns-in_err-add-clause-counted : goal.returns-in_err-add-clause-counted
 returns-in_err-add-clause-counted c =
     let given = c.args.edges.now in
     let i = c.loop-draw._draw in
-    counts_fewer (4 * i + 1) 49 (omega arith) given c.args.count.now c.add.new.self
+    counts_fewer (4 * i + 1) 45 (omega arith) given c.args.count.now c.add.new.self
     (counts_both (4 * i) 1 given c.args.count.now c.loop-draw.count c.add.new.self c.loop-draw.invariant.counted (c.add.ensures.counted given c.loop-draw.invariant.pile.reached.legal).counts)
 
 pub returns-in_err-draw-clause-counted : goal.returns-in_err-draw-clause-counted
 returns-in_err-draw-clause-counted c =
     let given = c.args.edges.now in
     let i = c.loop-draw._draw in
-    counts_fewer (4 * i + 1) 49 (omega arith) given c.args.count.now c.add.new.self
+    counts_fewer (4 * i + 1) 45 (omega arith) given c.args.count.now c.add.new.self
     (counts_both (4 * i) 1 given c.args.count.now c.loop-draw.count c.add.new.self c.loop-draw.invariant.counted (c.add.ensures.counted given c.loop-draw.invariant.pile.reached.legal).counts)
 
 pub returns-in_err-noted-clause-counted : goal.returns-in_err-noted-clause-counted
 returns-in_err-noted-clause-counted c =
     let given = c.args.edges.now in
     let i = c.loop-draw._draw in
-    counts_fewer (4 * i + 1) 49 (omega arith) given c.args.count.now c.add.new.self
+    counts_fewer (4 * i + 1) 45 (omega arith) given c.args.count.now c.add.new.self
     (counts_both (4 * i) 1 given c.args.count.now c.loop-draw.count c.add.new.self c.loop-draw.invariant.counted (c.add.ensures.counted given c.loop-draw.invariant.pile.reached.legal).counts)
 
 pub returns-in_err-splitter-2-clause-counted : goal.returns-in_err-splitter-2-clause-counted
 returns-in_err-splitter-2-clause-counted c =
     let given = c.args.edges.now in
     let i = c.loop-draw._draw in
-    counts_fewer (4 * i + 1 + 4) 49 (omega arith) given c.args.count.now c.attempt_anew.new.count
+    counts_fewer (4 * i + 1 + 4) 45 (omega arith) given c.args.count.now c.attempt_anew.new.count
     (counts_both (4 * i + 1) 4 given c.args.count.now c.add.new.self c.attempt_anew.new.count
     (counts_both (4 * i) 1 given c.args.count.now c.loop-draw.count c.add.new.self c.loop-draw.invariant.counted (c.add.ensures.counted given c.loop-draw.invariant.pile.reached.legal).counts)
     c.attempt_anew.ensures.counted)
@@ -64,25 +64,25 @@ pub returns-then-not-wants_another-clause-counted : goal.returns-then-not-wants_
 returns-then-not-wants_another-clause-counted c =
     let given = c.args.edges.now in
     let i = c.loop-draw._draw in
-    counts_fewer (4 * i) 49 (omega arith) given c.args.count.now c.loop-draw.count c.loop-draw.invariant.counted
+    counts_fewer (4 * i) 45 (omega arith) given c.args.count.now c.loop-draw.count c.loop-draw.invariant.counted
 
 pub returns-then-not-wants_another-clause-kept : goal.returns-then-not-wants_another-clause-kept
 returns-then-not-wants_another-clause-kept c =
     let given = c.args.edges.now in
     let i = c.loop-draw._draw in
-    counts_fewer (4 * i) 48 (omega arith) given c.args.count.now c.loop-draw.count c.loop-draw.invariant.counted
+    counts_fewer (4 * i) 44 (omega arith) given c.args.count.now c.loop-draw.count c.loop-draw.invariant.counted
 
 pub returns-clause-counted : goal.returns-clause-counted
 returns-clause-counted c =
     let given = c.args.edges.now in
     let i = c.loop-draw._draw in
-    counts_fewer (4 * i) 49 (omega arith) given c.args.count.now c.loop-draw.count c.loop-draw.invariant.counted
+    counts_fewer (4 * i) 45 (omega arith) given c.args.count.now c.loop-draw.count c.loop-draw.invariant.counted
 
 pub returns-clause-kept : goal.returns-clause-kept
 returns-clause-kept c =
     let given = c.args.edges.now in
     let i = c.loop-draw._draw in
-    counts_fewer (4 * i) 48 (omega arith) given c.args.count.now c.loop-draw.count c.loop-draw.invariant.counted
+    counts_fewer (4 * i) 44 (omega arith) given c.args.count.now c.loop-draw.count c.loop-draw.invariant.counted
 
 pub attempt_anew-requires-clause-among : goal.attempt_anew-requires-clause-among
 attempt_anew-requires-clause-among c = rw c.deref.ensures.value c.in_ok-noted.ensures
